@@ -1,0 +1,4 @@
+pub mod Lawful
+pub mod Nesting
+pub mod Refusals
+pub mod Rows

@@ -1,0 +1,3 @@
+mod Readings
+mod Totals
+mod Worked

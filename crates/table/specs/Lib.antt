@@ -1,0 +1,9 @@
+pub mod Faults
+pub mod Fields
+pub mod JobTexts
+pub mod Laws
+pub mod Readings
+pub mod Records
+pub mod RunTables
+pub mod Texts
+pub mod Values

@@ -1,0 +1,4 @@
+pub mod Books
+pub mod Counts
+pub mod Outputs
+pub mod Serial
