@@ -1,4 +1,5 @@
 pub mod Lawful
+pub mod Loops
 pub mod Nesting
 pub mod Refusals
 pub mod Rows

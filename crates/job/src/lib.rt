@@ -1,5 +1,6 @@
 // Jobs: rows, sources of rows, and the check that tells the lowest unlawful row.
 mod lawful;
+mod loops;
 mod refusal;
 mod row;
 mod source;
@@ -8,6 +9,8 @@ pub use lawful::MOST_ROWS;
 pub use lawful::check;
 pub use lawful::row_at;
 pub use lawful::row_count;
+pub use loops::LoopRows;
+pub use loops::LoopSource;
 pub use refusal::JobRefusal;
 pub use refusal::JobRefusalDebug;
 pub use refusal::JobRefusalEq;

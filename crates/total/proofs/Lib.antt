@@ -6,4 +6,6 @@ mod Gathering
 mod Numbers
 pub mod Outputs
 pub mod SerialLaws
+mod SpanTexts
+mod Spans
 mod Walking

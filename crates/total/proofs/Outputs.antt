@@ -11,6 +11,7 @@ use lib.ListN.{length, take, drop, length-append, length-take, length-drop, take
 use Rattle.std.proofs.shelf.Lists.{take-at, drop-at, drop-drop}
 use Rattle.std.proofs.shelf.Tests.{le-leb, lt-leb, leb-true, cond-true, cond-false, cond-both, cases-lt}
 use Rattle.std.specs.declared.result.Result.the-variants.{Ok, Err}
+use Rattle.total.specs.declared.output.OutputShort.{OutputShort}
 use Rattle.total.specs.Outputs.{fits, put, put-end}
 
 module _ (out : List ℕ) (at : ℕ) (bytes : List ℕ) where
@@ -71,3 +72,25 @@ module _ (out : List ℕ) (at : ℕ) (xs ys : List ℕ) where
       ∙ ap₂ (λ a b. a ++ (ys ++ b)) before behind
       ∙ (simp append-assoc)
       ∙ sym (put-fits out at (xs ++ ys) h)
+
+-- bytes that have room are not refused
+pub put-end-room : (out : List ℕ) (at : ℕ) (bytes : List ℕ) (e : OutputShort) → at + length bytes ≤ length out → Err e ≡ put-end out at bytes → ⊥
+put-end-room out at bytes e room was = let p = put-end-fits out at bytes room in let z : _≡_ {A = ℕ} 0 1 = cc in omega arith
+
+-- xs put at a place, and then ys at the place after them, where both have room
+module _ (out : List ℕ) (at : ℕ) (xs ys : List ℕ) (room : at + length (xs ++ ys) ≤ length out) where
+  pub room-first : at + length xs ≤ length out
+  room-first = omega (arith, length-append xs ys)
+
+  module _ (next : List ℕ) (mid : ℕ) (ends : Ok mid ≡ put-end out at xs) (is : next ≡ put out at xs) where
+    mid-is : mid ≡ at + length xs
+    mid-is = put-end-ok out at xs mid (sym ends) .1
+
+    pub room-next : mid + length ys ≤ length next
+    room-next = omega (arith, mid-is, ap length is, length-put out at xs, length-append xs ys)
+
+    pub both-end : put-end next mid ys ≡ put-end out at (xs ++ ys)
+    both-end = ap₂ (λ l k. put-end l k ys) is mid-is ∙ put-end-append out at xs ys
+
+    pub both-put : put next mid ys ≡ put out at (xs ++ ys)
+    both-put = ap₂ (λ l k. put l k ys) is mid-is ∙ put-append out at xs ys room

@@ -1,6 +1,7 @@
 // Bytes put into a lent output.
 ghost use mathlib.Core.Path.{_≡_};
 ghost use Prim.Native.Nat.{_+_, _≤_};
+ghost use lib.Dec.{leb};
 ghost use lib.ListN.{length, drop};
 ghost use Rattle.std.specs.Written.{decimal};
 ghost use Rattle.total.specs.Outputs.{put, put-end, output-number, output-told};
@@ -24,14 +25,21 @@ pub impl Refusal for OutputShort as OutputShortTold {
     }
 }
 
+// Whether so many bytes have room in the output from `at` on.
+pub fn has_room(out: &[u8], at: usize, count: usize) -> bool
+    ensures { λ r. ⌜ r ≡ leb (at + count) (length (now (out .entry))) ⌝ }
+{
+    // `at` may be any number, so the two are never added up.
+    at <= out.len() && count <= out.len() - at
+}
+
 // Puts the bytes into the output from `at` on, and answers the place after them. Where they have
 // no room the output stays as it was.
 pub fn put_bytes(out: &mut [u8], at: usize, bytes: &[u8]) -> Result<usize, OutputShort>
     ensures result { λ r. ⌜ r ≡ put-end (now (out .entry)) at (now (bytes .entry)) ⌝ }
     ensures after { λ _. ⌜ now (out .exit) ≡ put (now (out .entry)) at (now (bytes .entry)) ⌝ }
 {
-    // `at` may be any number, so the end is added up only once it is known to fit.
-    if at > out.len() || bytes.len() > out.len() - at {
+    if !has_room(out, at, bytes.len()) {
         return Err(OutputShort);
     }
     let end = at + bytes.len();
