@@ -2,20 +2,21 @@
 --     AllHold cs                 each of the cases holds
 --     how-many cs                how many they are
 --     lone m                     a job of one finish row of mark m
---     seals, loops, lone-rows    the cases by their subject
+--     nested                     rows of sizes 4, 3, 2, 1: a finish row, in it an async row, in it a finish row, in it an async row
+--     seals, loops, lone-rows, enclosers      the cases by their subject
 --     worked-cases               all of them
 use mathlib.Core.Path.{_≡_}
 use mathlib.Core.List.{List, [], _∷_, _++_}
 use Prim.Native.Nat.{ℕ, suc}
 use lib.IntN.{pos}
 use lib.ListN.{length}
-use Rattle.std.specs.declared.result.Result.{Result}
-use Rattle.std.specs.declared.result.Result.the-variants.{Ok, Err}
+use Rattle.std.specs.declared.option.Option.the-variants.{Some}
+use Rattle.std.specs.declared.result.Result.the-variants.{Ok}
 use Rattle.job.specs.declared.row.Row.{Row}
-use Rattle.job.specs.declared.refusal.JobRefusal.the-variants.{RowCount}
 use Rattle.job.specs.Lawful.{checked}
 use Rattle.job.specs.Loops.{loop-rows}
-use Rattle.job.specs.Rows.{row}
+use Rattle.job.specs.Nesting.{nesting}
+use Rattle.job.specs.Rows.{row, finish, owner}
 use Rattle.total.specs.Counts.{Number, number, zero-number, sum, kept}
 use Rattle.total.specs.Serial.{serial}
 use Rattle.total.specs.Spans.{Years, no-years, years, hull, capped}
@@ -57,5 +58,25 @@ lone-rows =
     ∷ ((m : ℕ) (value : ℕ → Years) → serial no-years hull capped (lone m) value 0 ≡ no-years)
     ∷ []
 
+abbrev pub nested : List Row
+nested =
+    record { size = 4; kind = 1; mark = 0 }
+    ∷ record { size = 3; kind = 2; mark = 0 }
+    ∷ record { size = 2; kind = 1; mark = 0 }
+    ∷ record { size = 1; kind = 2; mark = 0 }
+    ∷ []
+
+-- in these rows the finish of row 3 is row 2 and that of row 1 is row 0; row 2 is owned by row 1, and row 0 by itself;
+-- tasks nest three deep
+abbrev pub enclosers : List (Type 0)
+enclosers =
+    (checked nested ≡ Ok tt)
+    ∷ (finish nested 3 ≡ Some 2)
+    ∷ (finish nested 1 ≡ Some 0)
+    ∷ (owner nested 2 ≡ 1)
+    ∷ (owner nested 0 ≡ 0)
+    ∷ (nesting nested ≡ 3)
+    ∷ []
+
 abbrev pub worked-cases : List (Type 0)
-worked-cases = seals ++ (loops ++ lone-rows)
+worked-cases = seals ++ (loops ++ (lone-rows ++ enclosers))

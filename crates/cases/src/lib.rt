@@ -7,5 +7,5 @@ pub fn worked_cases() -> usize
     ensures hold { λ _. ⌜ AllHold worked-cases ⌝ }
     ensures count { λ n. ⌜ n ≡ how-many worked-cases ⌝ }
 {
-    11
+    17
 }

@@ -54,8 +54,8 @@ pub impl Refusal for BookRefusal as BookRefusalTold {
 pub impl From<JobRefusal> for BookRefusal as BookRefusalFromJob {
     ghost converts = { λ e r. r ≡ Job e };
 
-    fn from(refusal: JobRefusal) -> BookRefusal {
-        BookRefusal::Job(refusal)
+    fn from(fault: JobRefusal) -> BookRefusal {
+        BookRefusal::Job(fault)
     }
 }
 
