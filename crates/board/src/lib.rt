@@ -1,4 +1,6 @@
 // The board: a job that is dealt among workers by the dealing rules.
+#![tactic(auto)]
+
 mod acts;
 mod cells;
 mod spawning;

@@ -1,4 +1,6 @@
 // Worked cases: examples of the rules, all proved at once.
+#![tactic(auto)]
+
 ghost use Rattle.std.specs.Prelude.{◌≡◌};
 ghost use Rattle.cases.specs.Worked.{AllHold, worked_cases, how_many};
 

@@ -1,4 +1,6 @@
 // Reads a job table from standard input and prints its totals, or why it is refused.
+#![tactic(auto)]
+
 use runs::report;
 use std::io::{Read, Write};
 

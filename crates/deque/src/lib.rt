@@ -1,4 +1,6 @@
 // Double-ended queues of row numbers, in fixed memory.
+#![tactic(auto)]
+
 ghost use Rattle.std.specs.Prelude.{◌≡◌, [], ◌∷◌, length, if◌then◌else◌, nat_lt};
 ghost use Rattle.deque.specs.Deques.{room, rows_in};
 ghost use Rattle.deque.specs.Queues.{bottom, above_bottom, top, below_top};

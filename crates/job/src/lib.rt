@@ -1,4 +1,6 @@
 // Jobs: rows, sources of rows, and the check that tells the lowest unlawful row.
+#![tactic(auto)]
+
 mod entry;
 mod lawful;
 mod layout;

@@ -1,5 +1,7 @@
 // The dealing rules: the words in which a board is described, and what its calls answer. The rules
 // themselves are definitions, in specs/.
+#![tactic(auto)]
+
 mod answer;
 mod met;
 mod refusal;

@@ -1,4 +1,6 @@
 // Job tables in and out, and the records of run tables.
+#![tactic(auto)]
+
 mod field;
 mod lay;
 mod record;

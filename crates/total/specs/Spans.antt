@@ -2,6 +2,7 @@
 --     Years                      what a span means: no years, or the years from a first to a last one
 --     in_order a b               years from -9999 to 9999, the first not after the last
 --     span_meaning s             what a span means: no years where its fields are out of range or out of order
+--     years_eq x y               whether they are the same years, or both none
 --     hull x y                   the span of both: from the lesser of the first years to the greater of the last
 --     Holds x y                  x holds all years of y
 --     IsHull x y h               h is the shortest span that holds both: it holds both, and each span that does holds it
@@ -11,9 +12,10 @@
 --     meant r                    an answer, with what its span means
 --     span_number r              the number of the refusal
 --     span_told r                what is told with it: nothing
-use Rattle.std.specs.Prelude.{ℕ, Bool, cond, ◌&&◌, List, [], ◌∷◌, ◌++◌, ℤ, pos, negsuc, ◌-ℤ◌, ◌≤ℤ◌, Ok, Err, Result, int_le, int_lt, nat_lt}
+use Rattle.std.specs.Prelude.{ℕ, Bool, true, false, cond, ◌&&◌, List, [], ◌∷◌, ◌++◌, ℤ, pos, negsuc, ◌-ℤ◌, ◌≤ℤ◌, Ok, Err, Result, int_le, int_lt, nat_lt}
 use Rattle.std.specs.Int.{int_min, int_max}
 use Rattle.std.specs.Fmt.{signed_decimal}
+use Rattle.std.specs.Ordering.{int_eq}
 use Rattle.total.specs.declared.span.Span.{Span}
 use Rattle.total.specs.declared.span.SpanRefusal.{SpanRefusal}
 
@@ -26,6 +28,12 @@ in_order a b = int_le (negsuc 9998) a && (int_le a b && int_le b (pos 9999))
 
 abbrev pub span_meaning : Span → Years
 span_meaning s = cond (in_order s.first s.last) (years s.first s.last) no_years
+
+abbrev pub years_eq : Years → Years → Bool
+years_eq no_years no_years = true
+years_eq no_years (years c d) = false
+years_eq (years a b) no_years = false
+years_eq (years a b) (years c d) = int_eq a c && int_eq b d
 
 abbrev pub hull : Years → Years → Years
 hull no_years y = y

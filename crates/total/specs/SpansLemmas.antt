@@ -1,11 +1,13 @@
 -- Spans of years. Assumes nothing.
-use Rattle.std.specs.Prelude.{◌≡◌, true, false, ℤ, pos, negsuc, ◌≤ℤ◌, int_le, refl}
+use Rattle.std.specs.Cmp.{IsEquivalence, decided, signed_Decides}
+use Rattle.std.specs.Ordering.{int_eq}
+use Rattle.std.specs.Prelude.{Decides, ◌≡◌, true, false, ℤ, pos, negsuc, ◌≤ℤ◌, int_le, refl}
 use Rattle.std.proofs.Common.{sym, ◌∙◌, ap₂, subst, arith}
 use Rattle.std.specs.Int.{int_min, int_max}
 use Rattle.std.proofs.lemmas.Int.{ints, clamps}
 use Rattle.std.proofs.lemmas.Bool.{and_parts, and_from, cond-true, cond-false}
 use Rattle.total.specs.declared.span.Span.{Span}
-use Rattle.total.specs.Spans.{Years, no_years, years, in_order, span_meaning, hull, Holds, IsHull}
+use Rattle.total.specs.Spans.{Years, no_years, years, in_order, span_meaning, years_eq, hull, Holds, IsHull}
 
 same_years : (a b c d : ℤ) → a ≡ b → c ≡ d → years a c ≡ years b d
 same_years a b c d e f = ap₂ years e f
@@ -65,3 +67,19 @@ hull_meaning s t r p q e f =
     cond-true (in_order r.first r.last) _ _ both
     ∙ ap₂ years e f
     ∙ sym (ap₂ hull (cond-true (in_order s.first s.last) _ _ p) (cond-true (in_order t.first t.last) _ _ q))
+
+pub years_Decides : (x y : Years) → Decides (years_eq x y) (x ≡ y)
+years_Decides no_years no_years = (λ e. refl, λ e. refl)
+years_Decides no_years (years c d) = (λ e. cc, λ e. cc)
+years_Decides (years a b) no_years = (λ e. cc, λ e. cc)
+years_Decides (years a b) (years c d) =
+    (λ e.
+        let p = and_parts (int_eq a c) (int_eq b d) e in
+        same_years a c b d ((signed_Decides a c).0 p.0) ((signed_Decides b d).0 p.1),
+     λ e.
+        let p : a ≡ c = cc in
+        let q : b ≡ d = cc in
+        and_from (int_eq a c) (int_eq b d) ((signed_Decides a c).1 p) ((signed_Decides b d).1 q))
+
+pub years_equiv : IsEquivalence years_eq
+years_equiv = decided years_eq years_Decides

@@ -1,4 +1,6 @@
 // Kinds of total, books of them, and the serial totals of a job.
+#![tactic(auto)]
+
 mod book;
 mod count;
 mod kind;

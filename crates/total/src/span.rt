@@ -1,12 +1,12 @@
 // The span: no years, or the years from a first to a last one.
 ghost use Rattle.std.specs.Prelude.{◌≡◌, ◌+◌, ◌≤◌, [], ◌∷◌, length, ◌-ℤ◌, Decides};
-ghost use Rattle.std.proofs.Common.{ap, rules};
+ghost use Rattle.std.proofs.Common.{ap};
+ghost use Rattle.std.specs.Ordering.{on};
 ghost use Rattle.std.specs.Int.{int_min, int_max};
 ghost use Rattle.total.specs.Outputs.{put, put_end};
-ghost use Rattle.total.specs.Spans.{Years, no_years, years, in_order, span_meaning, hull, IsHull, capped, years_text, span_text, meant, spanned, span_number, span_told};
-ghost use Rattle.std.specs.Cmp.Rules.{comparing};
-ghost use Rattle.std.specs.Cmp as Keys;
-ghost use Rattle.total.specs.SpansLemmas.{hull_assoc, hull_comm, hull_none};
+ghost use Rattle.total.specs.Spans.{Years, no_years, years, in_order, span_meaning, years_eq, hull, IsHull, capped, years_text, span_text, meant, spanned, span_number, span_told};
+ghost use Rattle.std.specs.Cmp.{on_equiv, partial_equiv_from_equiv};
+ghost use Rattle.total.specs.SpansLemmas.{hull_assoc, hull_comm, hull_none, years_equiv};
 ghost use Rattle.total.specs.SpanTexts.{text_short};
 
 use crate::kind::{Printed, Total};
@@ -101,11 +101,14 @@ impl Span {
 }
 
 impl PartialEq for Span {
-    ghost equals = { λ x y r. Decides r (span_meaning x ≡ span_meaning y) };
+    ghost eq = { on span_meaning years_eq };
 
-    ghost laws = { Keys.partial_equiv_from_equiv (Prim.search (comparing, rules)) };
+    ghost laws = { partial_equiv_from_equiv (on_equiv span_meaning years_equiv) };
 
-    fn eq(&self, other: &Span) -> bool {
+    fn eq(&self, other: &Span) -> bool
+        ensures value { result ≡ on span_meaning years_eq self.now other.now }
+        ensures same { Decides result (span_meaning self.now ≡ span_meaning other.now) }
+    {
         if self.has_years() && other.has_years() {
             self.first == other.first && self.last == other.last
         } else {
@@ -115,7 +118,7 @@ impl PartialEq for Span {
 }
 
 impl Eq for Span {
-    ghost laws = { Prim.search (comparing, rules) };
+    ghost laws = { on_equiv span_meaning years_equiv };
 }
 
 impl Total for Span {

@@ -1,5 +1,7 @@
 // Examples and edge cases, worked by the library and printed, to be held against a stored output
 // that was worked out by hand.
+#![tactic(auto)]
+
 mod jobs;
 mod loops;
 mod reading;

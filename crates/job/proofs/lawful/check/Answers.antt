@@ -6,8 +6,8 @@ use Rattle.job.proofs.lawful.check.Goals as goal
 pub returns : goal.returns
 returns g c =
     let rows = g.S.JobSource.rows c.args.source.now in
-    let few = counted_is (length rows) _ c.in-ok-count.ensures in
-    let is = c.told.ensures ∙ ap verdict c.first-unlawful.ensures.lowest in
+    let few = counted_is (length rows) _ c.in_ok-count.ensures in
+    let is = c.told.ensures ∙ ap verdict c.first_unlawful.ensures.lowest in
     record {
       result = is ∙ judged_is rows few.1 few.2;
       judged = subst (Judged rows) (sym is) (judged rows few.1 few.2);

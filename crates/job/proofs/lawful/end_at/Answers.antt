@@ -5,4 +5,4 @@ use Rattle.job.proofs.lawful.end_at.Goals as goal
 
 pub returns : goal.returns
 unfolding end
-returns g c = ap (λ (x : Row). c.args.r + x.size) c.row-at.ensures
+returns g c = ap (λ (x : Row). c.args.r + x.size) c.row_at.ensures

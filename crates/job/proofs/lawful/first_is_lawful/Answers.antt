@@ -8,12 +8,12 @@ use Rattle.job.proofs.lawful.first_is_lawful.Goals as goal
 both : (a b c : Bool) → true ≡ a → true ≡ b → c ≡ (a && (b && c))
 both a b c e f = cc
 
-pub returns-then-is-known : goal.returns-then-is-known
-returns-then-is-known g c =
+pub returns-then-is_known : goal.returns-then-is_known
+returns-then-is_known g c =
     let rows = g.S.JobSource.rows c.args.source.now in
-    let first = c.row-at-first.result in
-    c.has-own-shape.ensures
-    ∙ both (is_finish first && eqb first.size c.args.count) (known_kind first) (own_shape first) c.if-is-whole.ensures c.if-is-known.ensures
+    let first = c.row_at-first.result in
+    c.has_own_shape.ensures
+    ∙ both (is_finish first && eqb first.size c.args.count) (known_kind first) (own_shape first) c.if-is_whole.ensures c.if-is_known.ensures
     ∙ ap (λ n. (is_finish first && eqb first.size n) && (known_kind first && own_shape first)) c.requires
-    ∙ ap (λ (x : Row). (is_finish x && eqb x.size (length rows)) && (known_kind x && own_shape x)) c.row-at-first.ensures
+    ∙ ap (λ (x : Row). (is_finish x && eqb x.size (length rows)) && (known_kind x && own_shape x)) c.row_at-first.ensures
     ∙ first-lawful rows

@@ -6,11 +6,11 @@ use Rattle.total.proofs.Answering.{fill_uncounted, fill_short, fill_checked}
 use Rattle.total.proofs.SerialLaws.{serial_rule, only_serial}
 use Rattle.total.proofs.book.fill_serial_totals.Goals as goal
 
-pub returns-in-err-count : goal.returns-in-err-count
-returns-in-err-count g c =
-    let p = err_from_is_err_and c.from-residual.result c.from-residual.ensures.1 in
+pub returns-in_err-count : goal.returns-in_err-count
+returns-in_err-count g c =
+    let p = err_from_is_err_and c.from_residual.result c.from_residual.ensures.1 in
     record {
-      result = p.1 ∙ ap Err p.2 ∙ fill_uncounted (g.S.JobSource.rows c.args.source.now) (length c.args.book.now) _ c.in-err-count.ensures;
+      result = p.1 ∙ ap Err p.2 ∙ fill_uncounted (g.S.JobSource.rows c.args.source.now) (length c.args.book.now) _ c.in_err-count.ensures;
       after = rw p.1 refl;
       same = λ k d y. refl;
       rule = serial_rule _ _ _ _;
@@ -20,22 +20,22 @@ returns-in-err-count g c =
 pub returns-then-book-count : goal.returns-then-book-count
 returns-then-book-count g c =
     let rows = g.S.JobSource.rows c.args.source.now in
-    let few = counted_is (length rows) _ c.in-ok-count.ensures in
+    let few = counted_is (length rows) _ c.in_ok-count.ensures in
     record {
-      result = fill_short rows (length c.args.book.now) _ c.in-ok-count.ensures (omega arith);
+      result = fill_short rows (length c.args.book.now) _ c.in_ok-count.ensures (omega arith);
       after = refl;
       same = λ k d y. refl;
       rule = serial_rule _ _ _ _;
       alone = only_serial _ _ _ _;
     }
 
-pub returns-in-err-check : goal.returns-in-err-check
-returns-in-err-check g c =
+pub returns-in_err-check : goal.returns-in_err-check
+returns-in_err-check g c =
     let rows = g.S.JobSource.rows c.args.source.now in
-    let few = counted_is (length rows) _ c.in-ok-count.ensures in
-    let p = err_from_is_err_and c.from-residual-in-err-check.result c.from-residual-in-err-check.ensures.1 in
+    let few = counted_is (length rows) _ c.in_ok-count.ensures in
+    let p = err_from_is_err_and c.from_residual-in_err-check.result c.from_residual-in_err-check.ensures.1 in
     record {
-      result = p.1 ∙ ap Err p.2 ∙ ap in_book c.in-err-check.ensures.result ∙ fill_checked rows (length c.args.book.now) _ c.in-ok-count.ensures (omega arith);
+      result = p.1 ∙ ap Err p.2 ∙ ap in_book c.in_err-check.ensures.result ∙ fill_checked rows (length c.args.book.now) _ c.in_ok-count.ensures (omega arith);
       after = rw p.1 refl;
       same = λ k d y. refl;
       rule = serial_rule _ _ _ _;
@@ -45,11 +45,11 @@ returns-in-err-check g c =
 pub returns : goal.returns
 returns g c =
     let rows = g.S.JobSource.rows c.args.source.now in
-    let few = counted_is (length rows) _ c.in-ok-count.ensures in
+    let few = counted_is (length rows) _ c.in_ok-count.ensures in
     record {
-      result = ap in_book c.in-ok-check.ensures.result ∙ fill_checked rows (length c.args.book.now) _ c.in-ok-count.ensures (omega arith);
-      after = c.fill-lines.ensures.after;
-      same = c.fill-lines.ensures.same;
+      result = ap in_book c.in_ok-check.ensures.result ∙ fill_checked rows (length c.args.book.now) _ c.in_ok-count.ensures (omega arith);
+      after = c.fill_lines.ensures.after;
+      same = c.fill_lines.ensures.same;
       rule = serial_rule _ _ _ _;
       alone = only_serial _ _ _ _;
     }

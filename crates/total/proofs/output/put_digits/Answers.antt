@@ -4,8 +4,8 @@ use Rattle.total.proofs.output.put_digits.Goals as goal
 pub loop-rest-init : goal.loop-rest-init
 loop-rest-init c = none_yet _ _ c.ranges.n.fits c.told-buffer
 
-pub overflow-sub-start : goal.overflow-sub-start
-overflow-sub-start c = has_room c.loop-rest.invariant
+pub overflow_sub-start : goal.overflow_sub-start
+overflow_sub-start c = has_room c.loop-rest.invariant
 
 pub returns-then-rest-eq0 : goal.returns-then-rest-eq0
 returns-then-rest-eq0 c =

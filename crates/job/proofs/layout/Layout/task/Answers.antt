@@ -5,16 +5,16 @@ use Rattle.job.specs.Layouts.{laid as laid-rows}
 use Rattle.job.proofs.Laid.{laid_out, enclosed-some, around_outside, around-inside, first-finish}
 use Rattle.job.proofs.layout.Layout.task.Goals as goal
 
-pub returns-in-err-enclosed : goal.returns-in-err-enclosed
-returns-in-err-enclosed c =
+pub returns-in_err-enclosed : goal.returns-in_err-enclosed
+returns-in_err-enclosed c =
     let l = c.args.self.now in
-    c.from-residual.ensures
-    ∙ around_outside l.entries l.count (omega arith) (laid_out l.entries l.count l.right) (is_task (laid-rows l)) c.args.r c.in-err-enclosed.ensures
+    c.from_residual.ensures
+    ∙ around_outside l.entries l.count (omega arith) (laid_out l.entries l.count l.right) (is_task (laid-rows l)) c.args.r c.in_err-enclosed.ensures
 
 pub returns : goal.returns
 returns c =
     let l = c.args.self.now in
-    let some = enclosed-some l.entries l.count c.args.r _ c.in-ok-enclosed.ensures in
+    let some = enclosed-some l.entries l.count c.args.r _ c.in_ok-enclosed.ensures in
     let laid = laid_out l.entries l.count l.right in
     around-inside l.entries l.count (omega arith) laid (is_task (laid-rows l)) refl c.args.r _ some.0 some.1
     (ap (λ (e : Entry). e.task) some.2 ∙ (laid.each c.args.r some.1).own)

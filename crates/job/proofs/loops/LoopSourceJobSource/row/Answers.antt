@@ -9,5 +9,5 @@ returns-then-n-len c = sym (slice_get_past (source_rows c.args.self.now) c.args.
 
 pub returns-else-n-eq0 : goal.returns-else-n-eq0
 returns-else-n-eq0 c =
-    ap Some c.row-in-chunks.ensures
+    ap Some c.row_in_chunks.ensures
     ∙ later_row c.args.self.now.iterations c.args.self.now.chunk c.args.n (omega arith) (omega arith)
