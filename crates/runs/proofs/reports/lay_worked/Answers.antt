@@ -8,8 +8,8 @@ use Rattle.runs.proofs.reports.lay_worked.Goals as goal
 pub returns-in-Ok : goal.returns-in-Ok
 returns-in-Ok c =
     let rows = c.args.rows.now in
-    let valued = c.set-values.new.book in
-    let book = c.fill-serial-totals.new.book in
+    let valued = c.set_values.new.book in
+    let book = c.fill_serial_totals.new.book in
     let lawful = checked_from (checked rows) (c.in-Ok.ensures.result ∙ fill_all rows (length valued) (omega arith)) in
-    let same = totals_are rows valued book (omega arith) (omega arith) c.set-values.ensures c.in-Ok.ensures.after ∙ worked_is rows valued book lawful in
-    record { place = c.lay-totals.ensures.place ∙ ap (λ l. c.args.at + length l) same; after = c.lay-totals.ensures.after ∙ ap (put c.args.out.now c.args.at) same; fits = c.lay-totals.ensures.fits }
+    let same = totals_are rows valued book (omega arith) (omega arith) c.set_values.ensures c.in-Ok.ensures.after ∙ worked_is rows valued book lawful in
+    record { place = c.lay_totals.ensures.place ∙ ap (λ l. c.args.at + length l) same; after = c.lay_totals.ensures.after ∙ ap (put c.args.out.now c.args.at) same; fits = c.lay_totals.ensures.fits }

@@ -9,8 +9,8 @@ use Rattle.table.proofs.field.field_at.Goals.{else-at-text-via-then-at-text+else
 
 pub returns-then-text-at-eq34 : goal.returns-then-text-at-eq34
 returns-then-text-at-eq34 c = record {
-  means = c.quoted-field.ensures.means ∙ ap or_quotes (sym (field_quoted c.args.text.now c.args.at c.if-at-text.true c.if-text-at-eq34.true));
-  moves = IfOk-weaker _ _ _ (λ f o. onward_from _ _ _ _ (omega arith) (omega arith) o) c.quoted-field.ensures.moves;
+  means = c.quoted_field.ensures.means ∙ ap or_quotes (sym (field_quoted c.args.text.now c.args.at c.if-at-text.true c.if-text-at-eq34.true));
+  moves = IfOk-weaker _ _ _ (λ f o. onward_from _ _ _ _ (omega arith) (omega arith) o) c.quoted_field.ensures.moves;
 }
 
 pub returns-else-at-text : goal.returns-else-at-text
@@ -22,6 +22,6 @@ returns-else-at-text c =
       | else-at-text-via-else-at-text w ↦ λ q. omega (arith, get_or_past text i 0 w.if-at-text.false)
     ] in
     record {
-      means = c.plain-field.ensures.means ∙ ap or_quotes (sym (field_plain text i no_quote));
-      moves = c.plain-field.ensures.moves;
+      means = c.plain_field.ensures.means ∙ ap or_quotes (sym (field_plain text i no_quote));
+      moves = c.plain_field.ensures.moves;
     }

@@ -20,7 +20,7 @@ returns-in-Some c =
 
 pub returns-then-text-i-eq34 : goal.returns-then-text-i-eq34
 returns-then-text-i-eq34 c =
-    let none = c.in-default.ensures in
+    let none = c.in_default.ensures in
     record {
       means = ap or_quotes (sym (plain_lost c.args.text.now c.args.start c.loop-after.i c.loop-after.invariant.0 none.moves c.loop-after.invariant.2 (sym none.means) c.if-text-i-eq34.true));
       moves = tt;
@@ -28,6 +28,6 @@ returns-then-text-i-eq34 c =
 
 pub loop-after-preserved : goal.loop-after-preserved
 loop-after-preserved c =
-    let none = c.in-default.ensures in
+    let none = c.in_default.ensures in
     let inv = c.loop-after.invariant in
     (omega arith, omega (arith, none.moves), plain_more c.args.text.now c.args.start c.loop-after.i inv.0 none.moves inv.2 (sym none.means) c.if-text-i-eq34.false)

@@ -23,7 +23,7 @@ returns-in-Some c =
 
 pub returns-then-text-i-ne34-2 : goal.returns-then-text-i-ne34-2
 returns-then-text-i-ne34-2 c =
-    let none = c.in-default.ensures in
+    let none = c.in_default.ensures in
     record {
       means = ap or_quotes (sym (quoted_lost c.args.text.now c.args.start c.loop-i.i c.loop-i.invariant.0 (omega arith) c.if-text-i-ne34.false none.moves (sym none.means) c.loop-i.invariant.2 c.if-text-i-ne34-2.true));
       moves = tt;
@@ -31,7 +31,7 @@ returns-then-text-i-ne34-2 c =
 
 pub loop-i-preserved : goal.loop-i-preserved
 loop-i-preserved c =
-    let none = c.in-default.ensures in
+    let none = c.in_default.ensures in
     let inv = c.loop-i.invariant in
     (omega arith, omega (arith, none.moves), quoted_doubled c.args.text.now c.args.start c.loop-i.i inv.0 (omega arith) c.if-text-i-ne34.false none.moves (sym none.means) inv.2 c.if-text-i-ne34-2.false)
 

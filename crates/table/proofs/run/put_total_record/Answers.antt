@@ -4,12 +4,12 @@ use Rattle.table.specs.RunTables.{line_end, total_record}
 use Rattle.table.proofs.Laying.{laid_five, refused_short, length_total}
 use Rattle.table.proofs.run.put_total_record.Goals as goal
 
-pub returns-then-not-has-room : goal.returns-then-not-has-room
-returns-then-not-has-room g c =
+pub returns-then-not-has_room : goal.returns-then-not-has_room
+returns-then-not-has_room g c =
     let text = g.P.Printed.text c.args.total.now in
     let long = length_total c.args.row text in
     let least = g.met.P.Printed.bounded c.args.total.now in
-    let over = leb-false _ _ (sym c.if-not-has-room.ensures) in
+    let over = leb-false _ _ (sym c.if-not-has_room.ensures) in
     let none = refused_short c.args.out.now c.args.at (total_record c.args.row text) (omega arith) in
     record { result = none.0; after = none.1; granted = λ h. absurd (omega arith) }
 
@@ -17,11 +17,11 @@ pub returns : goal.returns
 returns g c =
     let text = g.P.Printed.text c.args.total.now in
     let long = length_total c.args.row text in
-    let room : c.args.at + length (total_record c.args.row text) ≤ length c.args.out.now = omega (arith, leb-true _ _ (sym c.if-not-has-room.ensures)) in
+    let room : c.args.at + length (total_record c.args.row text) ≤ length c.args.out.now = omega (arith, leb-true _ _ (sym c.if-not-has_room.ensures)) in
     let all = laid_five c.args.out.now c.args.at (codes ",total,") (decimal c.args.row) (codes ",,,") text line_end room _ _ _ _ c.lay.new.out _ _ _ _ c.lay.result
     (record { place = c.lay-at.ensures.place; after_it = c.lay-at.ensures.after })
-    (record { place = c.lay-number-at.ensures.place; after_it = c.lay-number-at.ensures.after })
+    (record { place = c.lay_number-at.ensures.place; after_it = c.lay_number-at.ensures.after })
     (record { place = c.lay-at-2.ensures.place; after_it = c.lay-at-2.ensures.after })
-    (record { place = c.lay-text-at.ensures.place; after_it = c.lay-text-at.ensures.after })
+    (record { place = c.lay_text-at.ensures.place; after_it = c.lay_text-at.ensures.after })
     (record { place = c.lay.ensures.place; after_it = c.lay.ensures.after }) in
     record { result = all.0; after = all.1; granted = λ h. refl }

@@ -12,7 +12,7 @@ loop-i-preserved c =
     let rows = c.args.rows.now in
     let i = c.loop-i.i in
     let line : i + 2 + 1 ≡ i + 1 + 2 = omega arith in
-    c.loop-i.invariant ∙ first_more rows i (i + 2) no_row c.loop-i-test.true (sym c.in-default.ensures) ∙ ap (λ n. first_bad n (drop (i + 1) rows)) line
+    c.loop-i.invariant ∙ first_more rows i (i + 2) no_row c.loop-i-test.true (sym c.in_default.ensures) ∙ ap (λ n. first_bad n (drop (i + 1) rows)) line
 
 pub returns : goal.returns
 returns c = sym (ap unless_bad (c.loop-i.invariant ∙ at_drop_all (first_bad (c.loop-i.i + 2)) c.args.rows.now c.loop-i.i c.loop-i-test.false))

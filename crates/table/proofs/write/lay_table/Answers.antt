@@ -6,8 +6,8 @@ use Rattle.table.proofs.Laying.{laid_more}
 use Rattle.table.proofs.Pieces.{no_row, laid_as, joined_next, row_room}
 use Rattle.table.proofs.write.lay_table.Goals as goal
 
-pub lay-row-at-requires : goal.lay-row-at-requires
-lay-row-at-requires c = omega (arith, row_room c.args.rows.now c.loop-row.row-index no_row c.loop-row-test.true)
+pub lay_row-at-requires : goal.lay_row-at-requires
+lay_row-at-requires c = omega (arith, row_room c.args.rows.now c.loop-row.row-index no_row c.loop-row-test.true)
 
 pub loop-row-preserved : goal.loop-row-preserved
 loop-row-preserved c =
@@ -16,7 +16,7 @@ loop-row-preserved c =
     let before = flat_map row_text (take i rows) in
     let row = row_text (get_or rows i no_row) in
     let room = row_room rows i no_row c.loop-row-test.true in
-    laid_as (joined_next rows i no_row c.loop-row-test.true) (laid_more c.lay-at.new.out c.lay-at.result before row c.loop-row.out c.lay-row-at.new.out c.loop-row.at c.lay-row-at.result c.loop-row.invariant c.lay-row-at.ensures.place c.lay-row-at.ensures.after (omega (arith, length-append before row, room)))
+    laid_as (joined_next rows i no_row c.loop-row-test.true) (laid_more c.lay-at.new.out c.lay-at.result before row c.loop-row.out c.lay_row-at.new.out c.loop-row.at c.lay_row-at.result c.loop-row.invariant c.lay_row-at.ensures.place c.lay_row-at.ensures.after (omega (arith, length-append before row, room)))
 
 pub returns : goal.returns
 returns c =
