@@ -1,13 +1,12 @@
 -- What reading and writing the tables means for the model. Assumes nothing.
-use Rattle.std.proofs.Common.{◌≡◌, ℕ, zero, suc, ◌<◌, List, [], ◌∷◌, map, length, get_or, take, set, sym, refl, ap, ◌∙◌, subst, ap₂}
+use Rattle.std.proofs.Common.{◌≡◌, ℕ, zero, suc, ◌<◌, List, [], ◌∷◌, map, length, get_or, take, set, sym, refl, ap, ◌∙◌}
 use Rattle.std.proofs.lemmas.List.{get_or-take, map-set}
 use Rattle.deque.specs.Deques.{rows_in}
 use Rattle.job.specs.Layouts.{laid}
 use Rattle.rules.specs.declared.state.Policy.TheVariants.{HelpFirst}
-use Rattle.rules.specs.declared.state.TaskState.{TaskState}
 use Rattle.rules.specs.declared.state.TaskState.TheVariants.{Unspawned}
 use Rattle.rules.specs.declared.state.WorkerState.TheVariants.{Idle}
-use Rattle.rules.specs.Boards.{Worker, no_worker, Board, worker, task, live, with_worker, with_task, with_live}
+use Rattle.rules.specs.Boards.{Worker, no_worker, Board, worker, task, live}
 use Rattle.board.specs.declared.tables.Tables.{Tables}
 use Rattle.board.specs.declared.worker.Worker.{Worker as WorkerTable}
 use Rattle.board.specs.Views.{view}

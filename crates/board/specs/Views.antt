@@ -1,6 +1,6 @@
 -- The model that a board's tables stand for. Assumes nothing.
 --     view t                     the tables: of each, as much as there are workers and rows
-use Rattle.std.specs.Prelude.{List, map, length, take}
+use Rattle.std.specs.Prelude.{map, length, take}
 use Rattle.job.specs.Layouts.{laid}
 use Rattle.rules.specs.Boards.{Board}
 use Rattle.board.specs.declared.tables.Tables.{Tables}

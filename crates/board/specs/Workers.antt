@@ -2,7 +2,7 @@
 --     worker_view x              a worker: its queues as lists
 --     offers x                   the task that is stolen from a worker: the top of its preempted queue, else that of its fresh queue
 --     robbed_of x                the worker without it, where there is one
-use Rattle.std.specs.Prelude.{ℕ, List, Some, None, Option}
+use Rattle.std.specs.Prelude.{ℕ, Some, None, Option}
 use Rattle.deque.specs.Deques.{rows_in}
 use Rattle.deque.specs.Queues.{top, below_top}
 use Rattle.rules.specs.Boards.{Worker, to_preempted, to_fresh}

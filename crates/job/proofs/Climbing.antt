@@ -1,9 +1,9 @@
 -- Why the climb from the row before r finds the nearest row that encloses r. Assumes nothing.
-use Rattle.std.proofs.Common.{◌≡◌, ℕ, ◌<◌, ◌≤◌, true, List, Some, sym, refl, ap, ◌∙◌, subst, ⊎_elim, arith}
+use Rattle.std.proofs.Common.{◌≡◌, ℕ, ◌<◌, ◌≤◌, true, List, Some, sym, refl, subst, ⊎_elim, arith}
 use Rattle.std.proofs.lemmas.Bool.{cases_eq, cases_order}
 use Rattle.job.specs.declared.row.Row.{Row}
 use Rattle.job.specs.Rows.{end, nearest}
-use Rattle.job.proofs.Enclosing.{Nearest, around_is, around-some}
+use Rattle.job.proofs.Enclosing.{around_is, around-some}
 
 -- the climb is at p: all rows between p and r have ended by r
 abbrev pub Passed : List Row → ℕ → ℕ → Type 0

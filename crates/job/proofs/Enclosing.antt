@@ -1,9 +1,9 @@
 -- Enclosing rows as facts about numbers. Assumes nothing.
-use Rattle.std.proofs.Common.{◌≡◌, ℕ, ◌<◌, ◌≤◌, Bool, true, false, ◌&&◌, ltb, ◌⊎◌, List, Some, None, Option, sym, refl, ap, ◌∙◌, subst, inl, inr, ⊎_elim, arith}
-use Rattle.std.proofs.lemmas.Bool.{lt-ltb, le-ltb, ltb-true, ltb-false, and_from, and_parts, and_left, and_right, and_cases, cases_lt, cases_Bool, both_ways}
+use Rattle.std.proofs.Common.{◌≡◌, ℕ, ◌<◌, ◌≤◌, Bool, true, false, ◌&&◌, ltb, List, Some, None, ⊎_elim}
+use Rattle.std.proofs.lemmas.Bool.{lt-ltb, le-ltb, ltb-true, and_from, and_parts, and_left, and_right, and_cases, cases_lt, cases_Bool, both_ways}
 use Rattle.job.specs.declared.row.Row.{Row}
-use Rattle.job.specs.Rows.{end, encloses, around, nearest}
-use Rattle.job.proofs.Below.{Last, last_some, last_none, last_is, last_is_none}
+use Rattle.job.specs.Rows.{end, encloses, around}
+use Rattle.job.proofs.Below.{last_some, last_none, last_is, last_is_none}
 
 module _ (rows : List Row) where
   pub encloses_from : (p r : ℕ) → p < r → r < end rows p → encloses rows p r ≡ true

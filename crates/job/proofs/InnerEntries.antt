@@ -1,10 +1,10 @@
 -- The entry of a row, from that of its nearest enclosing row. Assumes nothing.
-use Rattle.std.proofs.Common.{◌≡◌, ℕ, ◌<◌, ◌≤◌, Bool, true, false, cond, ◌||◌, eqb, List, length, set, Some, None, Option, unwrap_or, sym, refl, ap, ◌∙◌, subst, ⊎_elim, arith}
+use Rattle.std.proofs.Common.{◌≡◌, ℕ, ◌<◌, ◌≤◌, Bool, cond, ◌||◌, eqb, List, length, set, Some, unwrap_or, sym, refl, ap, ◌∙◌, subst, ⊎_elim, arith}
 use Rattle.std.proofs.lemmas.List.{get_or-set_same, get_or-set_other, ext_get_or}
 use Rattle.std.proofs.lemmas.Bool.{cond-true, cond-false, cases_Bool, cases_eq}
 use Rattle.job.specs.declared.entry.Entry.{Entry}
 use Rattle.job.specs.declared.row.Row.{Row}
-use Rattle.job.specs.Rows.{blank, row, is_finish, is_async, is_task, around, nearest, finish, task}
+use Rattle.job.specs.Rows.{blank, row, is_finish, is_async, is_task, around, nearest}
 use Rattle.job.specs.Lawful.{Lawful}
 use Rattle.job.specs.Entries.{no_entry, entry, entry_rows, first_entry, inner_entry, RightEntry, EntryOf, LaidOut}
 use Rattle.job.proofs.ByNearest.{around-nearest, around_beyond}

@@ -1,5 +1,5 @@
 -- What the entries of a job that is laid out say. Assumes nothing.
-use Rattle.std.proofs.Common.{◌≡◌, ℕ, ◌+◌, ◌<◌, ◌≤◌, min, Bool, true, false, cond, ◌&&◌, ltb, ◌⊎◌, List, map, length, get_or, take, Some, None, Option, unwrap_or, sym, refl, ap, ◌∙◌, subst, inl, inr, ⊎_elim, arith}
+use Rattle.std.proofs.Common.{◌≡◌, ℕ, ◌+◌, ◌<◌, ◌≤◌, Bool, true, ◌&&◌, ltb, ◌⊎◌, List, length, take, Some, None, unwrap_or, sym, ap, ◌∙◌, inl, inr, ⊎_elim, arith}
 use mathlib.Core.Bool.{Bool-set}
 use mathlib.Core.HLevel.{Π_prop}
 use mathlib.Core.Logic.{∥∥₁_elim}
@@ -9,9 +9,9 @@ use Rattle.std.proofs.lemmas.List.{length-map, length-take, get_or-map, get_or-t
 use Rattle.std.proofs.lemmas.Bool.{cond-true, cond-false, cases_Bool, cases_lt, and_parts, and_cases, ltb-true, ltb-false}
 use Rattle.job.specs.declared.entry.Entry.{Entry}
 use Rattle.job.specs.declared.row.Row.{Row}
-use Rattle.job.specs.Rows.{most_rows, blank, row, end, around, nearest, finish, task, is_task, is_finish}
+use Rattle.job.specs.Rows.{blank, row, end, around, is_finish}
 use Rattle.job.specs.Lawful.{Lawful, Lawful-prop}
-use Rattle.job.specs.Entries.{no_entry, entry, entry_rows, enclosed, RightEntry, RightEntry-prop, LaidOut, LaidOut-prop}
+use Rattle.job.specs.Entries.{no_entry, entry, entry_rows, enclosed, RightEntry-prop, LaidOut, LaidOut-prop}
 use Rattle.job.proofs.ByNearest.{some-around}
 use Rattle.job.proofs.Enclosing.{around_is_none}
 use Rattle.job.proofs.LawfulRows.{lawful-first}

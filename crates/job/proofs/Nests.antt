@@ -1,14 +1,14 @@
 -- What a lawful job is like: enclosing rows nest. Assumes nothing.
-use Rattle.std.proofs.Common.{◌≡◌, ℕ, zero, suc, ◌<◌, ◌≤◌, Bool, true, false, cond, not, ◌&&◌, ◌||◌, eqb, leb, ◌⊎◌, List, length, Some, None, Ok, Err, Option, Result, sym, refl, ap, ◌∙◌, subst, inl, inr, ⊎_elim, arith}
+use Rattle.std.proofs.Common.{◌≡◌, ℕ, zero, suc, ◌<◌, ◌≤◌, true, not, ◌||◌, eqb, leb, ◌⊎◌, List, length, Some, None, Ok, Err, Option, Result, sym, refl, ◌∙◌, subst, inl, inr, ⊎_elim, arith}
 use Rattle.std.proofs.lemmas.Bool.{leb-true, and_parts, and_from, le-leb, cond-true, cond-false, cases_eq, cases_lt, cases_Bool, not-false, not-true}
 use Rattle.job.specs.declared.row.Row.{Row}
 use Rattle.job.specs.declared.refusal.JobRefusal.{JobRefusal}
-use Rattle.job.specs.declared.refusal.JobRefusal.TheVariants.{RowCount, Unlawful}
-use Rattle.job.specs.Rows.{most_rows, row, end, encloses, around, nearest}
+use Rattle.job.specs.declared.refusal.JobRefusal.TheVariants.{RowCount}
+use Rattle.job.specs.Rows.{most_rows, row, end, nearest}
 use Rattle.job.specs.Lawful.{whole_job, known_kind, own_shape, ends_by, ends_inside, lawful_row, lowest_unlawful, countable, row_count, verdict, checked, Judged, Lawful, LowestUnlawful, Nests}
-use Rattle.job.proofs.Below.{First, first_is, first_is_none}
+use Rattle.job.proofs.Below.{first_is, first_is_none}
 use Rattle.job.proofs.LawfulRows.{whole-end}
-use Rattle.job.proofs.Enclosing.{Nearest, around_is, around_none, encloses_from, encloses_is}
+use Rattle.job.proofs.Enclosing.{around_is, around_none, encloses_from, encloses_is}
 
 apart : (a b : ℕ) → (a ≡ b → ⊥) → (b < a) ⊎ (a < b)
 apart a b ne = ⊎_elim (λ l. inr l) (λ h. inl (omega arith)) (cases_lt a b)

@@ -2,7 +2,7 @@
 --     tasks_around rows r n      how many tasks below n are r or enclose it
 --     depth rows r               how many tasks there are among r and the rows that enclose it
 --     nesting rows               the largest depth of a row
-use Rattle.std.specs.Prelude.{ℕ, zero, suc, ◌+◌, max, Bool, cond, ◌&&◌, ◌||◌, List, length, ◌==◌}
+use Rattle.std.specs.Prelude.{ℕ, zero, suc, ◌+◌, max, cond, ◌&&◌, ◌||◌, List, length, ◌==◌}
 use Rattle.job.specs.declared.row.Row.{Row}
 use Rattle.job.specs.Rows.{is_task, encloses}
 

@@ -1,15 +1,14 @@
 -- Reading what was changed. Assumes nothing.
-use Rattle.std.proofs.Common.{◌≡◌, ℕ, ◌+◌, ◌<◌, ◌≤◌, Bool, true, false, ◌≢◌, List, length, get_or, set, Some, None, sum_by, Option, sym, refl, ap, ◌∙◌, subst, ⊎_elim, arith}
+use Rattle.std.proofs.Common.{◌≡◌, ℕ, ◌<◌, true, ◌≢◌, List, length, get_or, set, Some, None, sym, refl, ap, ◌∙◌, subst, ⊎_elim, arith}
 use Rattle.std.proofs.lemmas.List.{get_or-set_same, get_or-set_other, get_or_past}
 use Rattle.std.proofs.lemmas.List.Sums.{get_or-le-sum_by}
-use Rattle.std.proofs.lemmas.Bool.{cases_eq, cases_lt, both_ways, eq-eqb}
+use Rattle.std.proofs.lemmas.Bool.{cases_eq, cases_lt, eq-eqb}
 use Rattle.rules.specs.declared.state.Position.{Position}
-use Rattle.rules.specs.declared.state.TaskState.{TaskState}
-use Rattle.rules.specs.declared.state.TaskState.TheVariants.{Unspawned, Fresh, Preempted, Running, Suspended, Ended}
+use Rattle.rules.specs.declared.state.TaskState.TheVariants.{Unspawned}
 use Rattle.rules.specs.declared.state.WorkerState.{WorkerState}
 use Rattle.rules.specs.declared.state.WorkerState.TheVariants.{Idle, Stands, Out}
 use Rattle.rules.specs.Boards.{Worker, no_worker, Board, worker, task, task_of}
-use Rattle.rules.specs.Sound.{one, has, holders, is_running, position_of, Placed}
+use Rattle.rules.specs.Sound.{one, has, is_running, position_of, Placed}
 use Rattle.laws.proofs.Sums.{two_of_sum, one_at_most, one_true}
 
 -- what holds of a new entry, and of every other as it was

@@ -1,28 +1,16 @@
 -- A finish row that is closed at its end: boards are sound after it. Assumes nothing.
-use Rattle.std.proofs.Common.{◌≡◌, ℕ, ◌+◌, ◌-◌, ◌<◌, ◌≤◌, Bool, true, false, cond, ◌&&◌, eqb, ◌≢◌, ◌⊎◌, List, length, get_or, set, Some, None, sum_by, Option, sym, refl, ap, ◌∙◌, subst, inl, inr, ⊎_elim, arith, length-set}
-use Rattle.std.proofs.lemmas.List.{set-get_or}
-use Rattle.std.proofs.lemmas.Bool.{cond_both, cond-true, cond-false, cases_Bool, cases_eq, both_ways, and_parts, and_cases, eq-eqb, eqb-true, eqb-false}
-use Rattle.job.specs.Rows.{row, is_finish, is_async, end, owner}
-use Rattle.job.specs.Lawful.{Lawful}
+use Rattle.std.proofs.Common.{◌≡◌, ℕ, ◌≤◌, true, eqb, Some, sym, refl, ap, ◌∙◌, arith}
+use Rattle.std.proofs.lemmas.Bool.{cond_both, both_ways, eqb-true, eqb-false}
+use Rattle.job.specs.Rows.{row, is_finish, end}
 use Rattle.rules.specs.declared.state.Position.{Position}
 use Rattle.rules.specs.declared.state.TaskState.{TaskState}
-use Rattle.rules.specs.declared.state.TaskState.TheVariants.{Unspawned, Fresh, Preempted, Running, Suspended, Ended}
-use Rattle.rules.specs.declared.state.WorkerState.{WorkerState}
-use Rattle.rules.specs.declared.state.WorkerState.TheVariants.{Idle, Stands, Out}
-use Rattle.rules.specs.Words.{finish_of}
-use Rattle.rules.specs.Boards.{Worker, no_worker, Board, worker, task, live, to_state, with_worker, with_live, stands, leaves, resumes, takes_up}
+use Rattle.rules.specs.declared.state.TaskState.TheVariants.{Unspawned, Running, Suspended, Ended}
+use Rattle.rules.specs.Boards.{Board, worker, task, live, stands}
 use Rattle.rules.specs.Closing.{out_of, ends_run, closes}
-use Rattle.rules.specs.Picking.{picks}
-use Rattle.rules.specs.Steps.{suspended_at}
-use Rattle.rules.specs.Sound.{one, times, is_fresh, is_preempted, is_running, is_begun, is_live, is_ended, position_of, stopped, burden, spawned, LawfulPosition, Kept, Sound}
-use Rattle.laws.proofs.Changes.{at_set, task_here, stands_here}
-use Rattle.laws.proofs.Endings.{ended-task, ended-kept, ended_burdens, ended-spawned, ended_ran, some-live, first-task, last_kept, last_burdens, last_spawned, last_ran, last_nobody, queues_empty}
-use Rattle.laws.proofs.Leaves.{Leaves, ran, left-kept, left-spawned, left_burdens}
-use Rattle.laws.proofs.Positions.{inner_here, inner_owner, inner_async}
-use Rattle.laws.proofs.Rows.{finish-here, async_later, finish_is}
+use Rattle.rules.specs.Sound.{is_running, position_of, Kept, Sound}
+use Rattle.laws.proofs.Changes.{at_set, task_here}
+use Rattle.laws.proofs.Endings.{last_kept, last_burdens, last_spawned, last_ran, last_nobody, queues_empty}
 use Rattle.laws.proofs.Standing.{closed_sound}
-use Rattle.laws.proofs.Taking.{Between, and_off, taken_sound, picks_sound}
-use Rattle.laws.proofs.TakesUp.{Takes}
 
 pub running_not : (s : TaskState) → s ≡ Running → s ≡ Unspawned → ⊥
 running_not s e f = both_ways (is_running s) (ap is_running f) (ap is_running e)

@@ -1,27 +1,25 @@
 -- A task that ends, and a run that ends: what holds of the board is kept. Assumes nothing.
-use Rattle.std.proofs.Common.{◌≡◌, ℕ, zero, suc, ◌+◌, ◌-◌, ◌<◌, ◌≤◌, Bool, true, false, cond, not, ◌&&◌, ◌||◌, eqb, ◌≢◌, ◌⊎◌, List, [], ◌∷◌, length, get_or, set, Some, None, sum_by, Option, sym, refl, ap, ◌∙◌, subst, inl, inr, ⊎_elim, arith, length-set}
+use Rattle.std.proofs.Common.{◌≡◌, ℕ, zero, suc, ◌+◌, ◌-◌, ◌<◌, ◌≤◌, Bool, true, false, ◌&&◌, eqb, ◌≢◌, List, [], ◌∷◌, length, get_or, set, Some, sum_by, sym, refl, ap, ◌∙◌, subst, ⊎_elim, arith, length-set}
 use Rattle.std.proofs.lemmas.List.{get_or_past}
 use Rattle.std.proofs.lemmas.List.Sums.{get_or-le-sum_by}
-use Rattle.std.proofs.lemmas.Bool.{cases_eq, cases_lt, cases_Bool, both_ways, and_from, and_parts, or_cases, eq-eqb, ne_eqb, eqb-true}
+use Rattle.std.proofs.lemmas.Bool.{cases_lt, cases_Bool, both_ways, and_from, and_parts, or_cases, eq-eqb, ne_eqb, eqb-true}
 use Rattle.job.specs.declared.row.Row.{Row}
-use Rattle.job.specs.Rows.{row, is_finish, is_async, is_task, end, owner}
+use Rattle.job.specs.Rows.{row, is_async, is_task}
 use Rattle.job.specs.Lawful.{Lawful}
-use Rattle.job.proofs.LawfulRows.{lawful-first}
 use Rattle.rules.specs.declared.state.Position.{Position}
 use Rattle.rules.specs.declared.state.TaskState.{TaskState}
 use Rattle.rules.specs.declared.state.TaskState.TheVariants.{Unspawned, Fresh, Preempted, Running, Suspended, Ended}
-use Rattle.rules.specs.declared.state.WorkerState.{WorkerState}
-use Rattle.rules.specs.declared.state.WorkerState.TheVariants.{Idle, Stands, Out}
-use Rattle.rules.specs.Words.{finish_of, within}
-use Rattle.rules.specs.Boards.{Worker, no_worker, Board, worker, task, live, to_state, with_worker, with_task, with_live, task_of, leaves}
+use Rattle.rules.specs.declared.state.WorkerState.TheVariants.{Idle}
+use Rattle.rules.specs.Words.{finish_of}
+use Rattle.rules.specs.Boards.{Worker, no_worker, Board, worker, task, live, to_state, with_live, leaves}
 use Rattle.rules.specs.Closing.{ends_run}
-use Rattle.rules.specs.Sound.{one, has, times, is_unspawned, is_unbegun, is_fresh, is_preempted, is_running, is_ended, is_begun, is_live, position_of, stopped, burden, sum_below, is_live_task, live_in, live_number, spawned, fresh_places, preempted_places, keeper, parent, LawfulPosition, Shaped, Placed, Positioned, Counted, Waited, Ahead, Ending, Kept}
-use Rattle.laws.proofs.Changes.{at_set, task_here, stands_here}
+use Rattle.rules.specs.Sound.{one, times, is_fresh, is_preempted, is_ended, is_begun, is_live, position_of, stopped, burden, is_live_task, live_in, live_number, spawned, keeper, LawfulPosition, Kept}
+use Rattle.laws.proofs.Changes.{at_set}
 use Rattle.laws.proofs.Leaves.{Leaves, ran, left-shaped, left-placed, left-positioned, left-waited, left-ahead, left-spawned, left_burdens, live_back, at_task}
-use Rattle.laws.proofs.Positions.{inner_here, inner_task, inner_async, owner-around}
-use Rattle.laws.proofs.Rows.{not_both, async_here, async_later, finish_is, finish_of-here, within_is}
+use Rattle.laws.proofs.Positions.{inner_task, owner-around}
+use Rattle.laws.proofs.Rows.{async_here, async_later, finish_is, within_is}
 use Rattle.laws.proofs.States.{begun_live, fresh-live, preempted-live, live-spawned}
-use Rattle.laws.proofs.Sums.{one_of_sum, one_at_most, one_true, one_false, times_cons, sum_below_same, sum_below_change}
+use Rattle.laws.proofs.Sums.{one_of_sum, times_cons, sum_below_same, sum_below_change}
 
 -- a live row is an async row of the job, after row 0
 module _ (b : Board) (k : Kept b) (a : ℕ) (y : is_live_task b a ≡ true) where

@@ -1,20 +1,19 @@
 -- A worker that leaves its task: what holds of the board is kept. Assumes nothing.
-use Rattle.std.proofs.Common.{◌≡◌, ℕ, ◌+◌, ◌<◌, ◌≤◌, Bool, true, false, cond, not, ◌&&◌, eqb, ◌≢◌, ◌⊎◌, List, length, get_or, set, Some, None, sum_by, Option, sym, refl, ap, ◌∙◌, subst, inl, inr, ⊎_elim, arith, length-set}
+use Rattle.std.proofs.Common.{◌≡◌, ℕ, ◌+◌, ◌<◌, ◌≤◌, Bool, true, false, not, ◌&&◌, eqb, ◌≢◌, length, Some, sum_by, sym, refl, ap, ◌∙◌, subst, arith, length-set}
 use Rattle.std.proofs.lemmas.List.Sums.{sum_by-set}
-use Rattle.std.proofs.lemmas.Bool.{cases_eq, cases_Bool, both_ways, eq-eqb, ne_eqb, eqb-true}
-use Rattle.job.specs.declared.row.Row.{Row}
-use Rattle.job.specs.Rows.{row, is_async, is_task, end}
+use Rattle.std.proofs.lemmas.Bool.{both_ways, eq-eqb, ne_eqb}
+use Rattle.job.specs.Rows.{row, is_async}
 use Rattle.rules.specs.declared.state.Position.{Position}
 use Rattle.rules.specs.declared.state.TaskState.{TaskState}
-use Rattle.rules.specs.declared.state.TaskState.TheVariants.{Unspawned, Fresh, Preempted, Running, Suspended, Ended}
+use Rattle.rules.specs.declared.state.TaskState.TheVariants.{Unspawned, Running}
 use Rattle.rules.specs.declared.state.WorkerState.{WorkerState}
-use Rattle.rules.specs.declared.state.WorkerState.TheVariants.{Idle, Stands, Out}
+use Rattle.rules.specs.declared.state.WorkerState.TheVariants.{Idle, Out}
 use Rattle.rules.specs.Words.{finish_of, within}
 use Rattle.rules.specs.Boards.{Worker, no_worker, Board, worker, task, with_worker, with_task, task_of}
 use Rattle.rules.specs.Loads.{lawful_workers}
-use Rattle.rules.specs.Sound.{one, has, times, is_unspawned, is_unbegun, is_fresh, is_preempted, is_running, is_ended, is_begun, is_live, is_before_work, position_of, stopped, burden, is_live_task, live_in, live_number, spawned, keeper, parent, LawfulPosition, Shaped, Placed, Positioned, Counted, Waited, Ahead, Ending, Kept}
+use Rattle.rules.specs.Sound.{one, has, times, is_unspawned, is_unbegun, is_fresh, is_preempted, is_running, is_ended, is_begun, is_live, is_before_work, position_of, stopped, burden, is_live_task, live_in, spawned, keeper, parent, LawfulPosition, Shaped, Placed, Positioned, Counted, Waited, Ahead, Ending, Kept}
 use Rattle.laws.proofs.Changes.{at_set, task_here, task_of_position, stands_here, runs}
-use Rattle.laws.proofs.States.{running_is, begun_unended, begun_live}
+use Rattle.laws.proofs.States.{running_is, begun_live}
 use Rattle.laws.proofs.Sums.{sum-set_same, sum_below_same}
 
 module _ (b : Board) (k : Kept b) (w : ℕ) (x : Worker) (p : Position) (s : TaskState) where

@@ -1,5 +1,5 @@
 -- A loaded board is sound. Assumes nothing.
-use Rattle.std.proofs.Common.{◌≡◌, ℕ, zero, suc, ◌+◌, ◌-◌, ◌<◌, ◌≤◌, Bool, true, false, cond, not, ◌&&◌, eqb, ltb, leb, ◌≢◌, List, [], ◌∷◌, length, get_or, replicate, Some, None, Ok, Err, sum_by, Option, Result, sym, refl, ap, ◌∙◌, subst, ⊎_elim, arith}
+use Rattle.std.proofs.Common.{◌≡◌, ℕ, zero, suc, ◌-◌, ◌<◌, ◌≤◌, true, false, eqb, ltb, leb, List, length, get_or, replicate, Some, None, Ok, Err, sum_by, Option, Result, sym, refl, ap, ◌∙◌, subst, ⊎_elim, arith}
 use lib.ListN.{length-replicate}
 use Rattle.std.proofs.lemmas.List.Sums.{sum_by-cons}
 use Rattle.std.proofs.lemmas.Bool.{cond-true, cond-false, cases_Bool, both_ways, and_parts, leb-true, ltb-false, ne_eqb}
@@ -10,14 +10,13 @@ use Rattle.job.proofs.Nests.{lowest_none}
 use Rattle.rules.specs.declared.refusal.DealRefusal.{DealRefusal}
 use Rattle.rules.specs.declared.refusal.DealRefusal.TheVariants.{RowCount, WorkerCount, Figures as BadFigures, ShortBook, Unlawful}
 use Rattle.rules.specs.declared.state.Figures.{Figures}
-use Rattle.rules.specs.declared.state.Position.{Position}
 use Rattle.rules.specs.declared.state.TaskState.{TaskState}
 use Rattle.rules.specs.declared.state.TaskState.TheVariants.{Unspawned, Running, Suspended}
-use Rattle.rules.specs.declared.state.WorkerState.TheVariants.{Idle, Stands, Out}
+use Rattle.rules.specs.declared.state.WorkerState.TheVariants.{Idle, Out}
 use Rattle.rules.specs.Words.{begins, finish_of}
 use Rattle.rules.specs.Boards.{Worker, no_worker, Board, worker, task, live, task_of}
 use Rattle.rules.specs.Loads.{most_figure, lawful_workers, lawful_figures, first_worker, loaded, unless_unlawful, loads}
-use Rattle.rules.specs.Sound.{one, has, times, is_unspawned, is_unbegun, is_fresh, is_preempted, is_running, is_ended, is_begun, is_live, is_before_work, position_of, stopped, burden, sum_below, is_live_task, live_in, Kept, Sound, LawfulPosition}
+use Rattle.rules.specs.Sound.{one, has, times, is_unspawned, is_fresh, is_preempted, is_running, is_live, is_before_work, position_of, stopped, burden, sum_below, is_live_task, live_in, Kept, Sound, LawfulPosition}
 use Rattle.laws.proofs.Positions.{begins-lawful}
 use Rattle.laws.proofs.Rows.{async_later}
 use Rattle.laws.proofs.Sums.{sum_below_same}

@@ -1,18 +1,18 @@
 -- Positions in the tasks of a lawful job, and how they move. Assumes nothing.
-use Rattle.std.proofs.Common.{◌≡◌, ℕ, zero, suc, ◌+◌, ◌<◌, ◌≤◌, Bool, true, false, cond, ◌&&◌, ◌||◌, eqb, ◌≢◌, ◌⊎◌, List, length, Some, None, Option, unwrap_or, sym, refl, ap, ◌∙◌, subst, inl, inr, ⊎_elim, arith}
-use Rattle.std.proofs.lemmas.Bool.{cond-true, cond-false, cases_Bool, cases_eq, cases_order, both_ways, and_parts, and_from, or_cases, or_left, or_right, eqb-true, eq-eqb, ne_eqb}
+use Rattle.std.proofs.Common.{◌≡◌, ℕ, ◌+◌, ◌<◌, ◌≤◌, true, false, ◌&&◌, eqb, ◌≢◌, ◌⊎◌, List, length, Some, unwrap_or, sym, refl, ap, ◌∙◌, subst, inl, inr, ⊎_elim, arith}
+use Rattle.std.proofs.lemmas.Bool.{cases_Bool, cases_eq, both_ways, and_parts, and_from, or_cases, or_left, or_right, eqb-true, eq-eqb}
 use Rattle.job.specs.declared.row.Row.{Row}
-use Rattle.job.specs.Rows.{row, is_finish, is_async, is_task, end, encloses, around, nearest, finish, owner, task as task-around}
+use Rattle.job.specs.Rows.{row, is_finish, is_async, is_task, end, around, nearest, owner, task as task-around}
 use Rattle.job.specs.Lawful.{Lawful}
 use Rattle.job.proofs.ByNearest.{around-nearest, around_beyond}
 use Rattle.job.proofs.Enclosing.{Nearest, around_is}
 use Rattle.job.proofs.LawfulRows.{lawful-first, ends-after}
 use Rattle.job.proofs.Nests.{ends-within, ends_in_job}
 use Rattle.rules.specs.declared.state.Position.{Position}
-use Rattle.rules.specs.Words.{inside, finish_of, within, begins, onto, into}
+use Rattle.rules.specs.Words.{inside, finish_of, begins, onto, into}
 use Rattle.rules.specs.Closing.{out_of}
 use Rattle.rules.specs.Sound.{has, is_inner, is_next, LawfulPosition}
-use Rattle.laws.proofs.Rows.{has_some, some-has, finish-here, async_here, async_later, finish-task, around-kind, nearest-some, task-some, finish-some, finish_of-here, first-inside, next_after, within_self, within_is}
+use Rattle.laws.proofs.Rows.{has_some, some-has, finish-here, finish-task, around-kind, nearest-some, task-some, first-inside, next_after}
 
 zero_owner : (rows : List Row) (f : ℕ) → f ≡ 0 → owner rows f ≡ 0
 unfolding around

@@ -1,5 +1,5 @@
 -- How often a row stands in a queue of which an end is taken. Assumes nothing.
-use Rattle.std.proofs.Common.{◌≡◌, ℕ, ◌+◌, ◌≤◌, true, eqb, List, [], ◌∷◌, length, Some, None, sym, refl, ap, ◌∙◌, arith}
+use Rattle.std.proofs.Common.{◌≡◌, ℕ, ◌+◌, ◌≤◌, eqb, List, [], ◌∷◌, length, Some, None, refl, ap, arith}
 use Rattle.std.proofs.lemmas.Bool.{eq-eqb}
 use Rattle.deque.specs.Queues.{bottom, above_bottom, top, top_over, below_top, below_top_over}
 use Rattle.rules.specs.Sound.{one, times}

@@ -1,12 +1,11 @@
 -- A worker that goes on in its task: what holds of the board is kept. Assumes nothing.
-use Rattle.std.proofs.Common.{◌≡◌, ℕ, ◌+◌, ◌<◌, ◌≤◌, Bool, true, false, ◌≢◌, List, length, get_or, set, Some, None, sum_by, Option, sym, refl, ap, ◌∙◌, subst, ⊎_elim, arith, length-set}
-use Rattle.job.specs.Rows.{row, is_async}
+use Rattle.std.proofs.Common.{◌≡◌, ℕ, ◌+◌, ◌<◌, ◌≤◌, true, length, Some, sum_by, sym, ap, ◌∙◌, subst, arith, length-set}
 use Rattle.rules.specs.declared.state.Position.{Position}
 use Rattle.rules.specs.declared.state.WorkerState.TheVariants.{Out}
 use Rattle.rules.specs.Words.{finish_of, within}
 use Rattle.rules.specs.Boards.{Worker, no_worker, Board, worker, task, with_worker, task_of}
 use Rattle.rules.specs.Loads.{lawful_workers}
-use Rattle.rules.specs.Sound.{one, has, times, is_unspawned, is_before_work, position_of, burden, is_live_task, keeper, parent, LawfulPosition, Shaped, Placed, Positioned, Counted, Waited, Ahead, Ending, Kept}
+use Rattle.rules.specs.Sound.{one, has, times, is_unspawned, is_before_work, position_of, burden, is_live_task, keeper, parent, LawfulPosition, Shaped, Placed, Positioned, Waited, Ahead, Kept}
 use Rattle.std.proofs.lemmas.List.Sums.{sum_by-set}
 use Rattle.laws.proofs.Changes.{at_set, task_of_position, stands_here}
 use Rattle.laws.proofs.Sums.{sum-set_same}

@@ -1,18 +1,16 @@
 -- Rows of a lawful job: what encloses them, and the positions of tasks in them. Assumes nothing.
-use Rattle.std.proofs.Common.{◌≡◌, ℕ, zero, suc, ◌+◌, ◌<◌, ◌≤◌, Bool, true, false, cond, ◌&&◌, ◌||◌, eqb, ltb, ◌≢◌, ◌⊎◌, List, length, Some, None, Option, unwrap_or, sym, refl, ap, ◌∙◌, subst, inl, inr, ⊎_elim, arith}
+use Rattle.std.proofs.Common.{◌≡◌, ℕ, ◌+◌, ◌<◌, ◌≤◌, true, false, eqb, ◌⊎◌, List, length, Some, None, Option, sym, refl, ap, ◌∙◌, subst, inl, inr, ⊎_elim, arith}
 use Rattle.std.proofs.lemmas.List.{get_or_past}
-use Rattle.std.proofs.lemmas.Bool.{cond-true, cond-false, cases_Bool, cases_eq, cases_lt, cases_order, both_ways, and_parts, and_from, or_cases, or_left, or_right, eqb-true, eq-eqb, ne_eqb, eqb-false, lt-ltb}
+use Rattle.std.proofs.lemmas.Bool.{cases_Bool, cases_eq, cases_lt, cases_order, both_ways, or_cases, or_left, or_right, eqb-true, eq-eqb}
 use Rattle.job.specs.declared.row.Row.{Row}
-use Rattle.job.specs.Rows.{blank, row, is_work, is_finish, is_async, is_task, end, encloses, around, nearest, finish, owner, task as task-around}
+use Rattle.job.specs.Rows.{blank, row, is_finish, is_async, is_task, end, encloses, nearest, finish, owner, task as task-around}
 use Rattle.job.specs.Lawful.{Lawful}
-use Rattle.job.proofs.ByNearest.{some-around, around-nearest, around_beyond}
-use Rattle.job.proofs.Enclosing.{Nearest, around_is, around-some, around_none, encloses_from, encloses_is}
-use Rattle.job.proofs.LawfulRows.{lawful-first, known, ends-after, work_from, whole-end, work_alone}
+use Rattle.job.proofs.ByNearest.{some-around}
+use Rattle.job.proofs.Enclosing.{Nearest, around_is, around-some, encloses_from, encloses_is}
+use Rattle.job.proofs.LawfulRows.{lawful-first, ends-after, work_from, work_alone}
 use Rattle.job.proofs.Nests.{ends-within, ends-in_order, ends_in_job}
-use Rattle.rules.specs.declared.state.Position.{Position}
-use Rattle.rules.specs.Words.{inside, finish_of, within, begins, onto, into}
-use Rattle.rules.specs.Closing.{out_of}
-use Rattle.rules.specs.Sound.{has, is_inner, is_next, LawfulPosition}
+use Rattle.rules.specs.Words.{inside, finish_of, within}
+use Rattle.rules.specs.Sound.{has, is_next}
 
 pub has_some : (a : ℕ) (o : Option ℕ) → has a o ≡ true → o ≡ Some a
 has_some a None e = absurd (both_ways true (sym e) refl)

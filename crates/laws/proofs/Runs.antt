@@ -1,9 +1,8 @@
 -- Every board of every run is sound. Assumes nothing.
-use Rattle.std.proofs.Common.{◌≡◌, ℕ, List, [], ◌∷◌, length, Ok, Err, Result, sym, refl, ap, subst}
-use Rattle.rules.specs.declared.refusal.DealRefusal.{DealRefusal}
+use Rattle.std.proofs.Common.{ℕ, List, [], ◌∷◌, length, sym, subst}
 use Rattle.rules.specs.Boards.{Board}
-use Rattle.rules.specs.Loads.{loaded, loads, board_after, load}
-use Rattle.rules.specs.Runs.{Call, steps, takes, hands_in, gives_back, Moment, done, history, Run}
+use Rattle.rules.specs.Loads.{loaded, board_after, load}
+use Rattle.rules.specs.Runs.{Call, steps, takes, hands_in, gives_back, done, history, Run}
 use Rattle.rules.specs.Sound.{Sound}
 use Rattle.laws.specs.SoundRuns.{Throughout, SoundRuns}
 use Rattle.laws.proofs.Loading.{granted_is, loaded_sound}

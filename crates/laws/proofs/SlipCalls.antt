@@ -1,17 +1,16 @@
 -- Work rows taken, handed in and given back keep a board sound. Assumes nothing.
-use Rattle.std.proofs.Common.{◌≡◌, ℕ, ◌+◌, ◌<◌, ◌≤◌, Bool, true, false, cond, not, ◌&&◌, eqb, ltb, leb, ◌≢◌, List, length, Some, None, Result, sym, refl, ap, ◌∙◌, subst, arith}
+use Rattle.std.proofs.Common.{◌≡◌, ℕ, ◌+◌, true, false, cond, not, eqb, ltb, leb, List, length, Some, Result, refl, ap, subst, arith}
 use Rattle.std.proofs.lemmas.Bool.{cond_both, both_ways, and_parts, and_from, eqb-true, eqb-false, not-true, not_from_false}
 use Rattle.job.specs.Rows.{row, is_work, is_finish, is_async, end}
 use Rattle.job.proofs.LawfulRows.{work_from, work_alone}
-use Rattle.rules.specs.declared.met.Met.{Met}
 use Rattle.rules.specs.declared.met.Met.TheVariants.{Work, Finish, Async, FinishEnd, AsyncEnd}
 use Rattle.rules.specs.declared.refusal.DealRefusal.{DealRefusal}
 use Rattle.rules.specs.declared.state.Position.{Position}
 use Rattle.rules.specs.declared.state.WorkerState.{WorkerState}
 use Rattle.rules.specs.declared.state.WorkerState.TheVariants.{Idle, Stands, Out}
 use Rattle.rules.specs.Words.{onto, meets_row, meets_end, meets}
-use Rattle.rules.specs.Boards.{Worker, Board, worker, to_state, with_worker, stands}
-use Rattle.rules.specs.Slips.{Slip, Took, takes_met, takes_in, take, out_at, is_out, back_onto, comes_in, hand_in, give_back}
+use Rattle.rules.specs.Boards.{Board, worker, to_state, with_worker, stands}
+use Rattle.rules.specs.Slips.{Slip, Took, takes_met, takes_in, take, out_at, is_out, back_onto, hand_in, give_back}
 use Rattle.rules.specs.Steps.{Outcome}
 use Rattle.rules.specs.Sound.{position_of, is_before_work, Sound}
 use Rattle.laws.proofs.Positions.{next_row}

@@ -1,27 +1,25 @@
 -- The rules by which an async row is spawned and placed: boards are sound after them. Assumes nothing.
-use Rattle.std.proofs.Common.{◌≡◌, ℕ, ◌+◌, ◌<◌, ◌≤◌, Bool, true, false, cond, ◌&&◌, eqb, ◌≢◌, ◌⊎◌, List, ◌∷◌, length, get_or, set, Some, None, sum_by, Option, sym, refl, ap, ◌∙◌, subst, ap₂, inl, inr, ⊎_elim, arith, length-set}
+use Rattle.std.proofs.Common.{◌≡◌, ℕ, ◌+◌, ◌<◌, ◌≤◌, eqb, ◌≢◌, ◌∷◌, length, get_or, set, Some, sym, refl, ap, ◌∙◌, subst, ap₂, arith, length-set}
 use Rattle.std.proofs.lemmas.List.{set-set, set_comm, get_or-set_same, get_or-set_other}
-use Rattle.std.proofs.lemmas.Bool.{both_ways, eq-eqb}
 use Rattle.deque.specs.Queues.{bottom, above_bottom}
-use Rattle.job.specs.Rows.{row, is_async, end}
+use Rattle.job.specs.Rows.{end}
 use Rattle.rules.specs.declared.state.Policy.{Policy}
 use Rattle.rules.specs.declared.state.Policy.TheVariants.{HelpFirst, WorkFirst}
 use Rattle.rules.specs.declared.state.Position.{Position}
 use Rattle.rules.specs.declared.state.TaskState.{TaskState}
-use Rattle.rules.specs.declared.state.TaskState.TheVariants.{Unspawned, Fresh, Preempted, Running, Suspended, Ended}
-use Rattle.rules.specs.declared.state.WorkerState.{WorkerState}
-use Rattle.rules.specs.declared.state.WorkerState.TheVariants.{Idle, Stands, Out}
+use Rattle.rules.specs.declared.state.TaskState.TheVariants.{Unspawned, Fresh, Preempted, Running, Suspended}
+use Rattle.rules.specs.declared.state.WorkerState.TheVariants.{Idle, Stands}
 use Rattle.rules.specs.Words.{finish_of, begins, onto}
-use Rattle.rules.specs.Boards.{Worker, no_worker, Board, worker, task, live, to_state, to_preempted, to_fresh, with_worker, with_task, resumes, takes_up}
+use Rattle.rules.specs.Boards.{Worker, no_worker, Board, worker, task, live, to_state, to_preempted, to_fresh, with_worker, with_task, resumes}
 use Rattle.rules.specs.Picking.{takes_fresh}
 use Rattle.rules.specs.Placing.{placing, counts_spawn, raised, helps_first, works_first, placed_by, placed}
-use Rattle.rules.specs.Sound.{one, times, is_preempted, is_running, position_of, stopped, burden, spawned, Kept, Sound}
+use Rattle.rules.specs.Sound.{position_of, Kept, Sound}
 use Rattle.laws.proofs.Changes.{at_set, stands_here}
 use Rattle.laws.proofs.Leaves.{Leaves, left-kept, left-spawned, left_burdens}
 use Rattle.laws.proofs.Positions.{next_row, next_later}
 use Rattle.laws.proofs.Queues.{bottom-taken, bottom-length, bottom_in}
 use Rattle.laws.proofs.Rows.{finish_of-here}
-use Rattle.laws.proofs.Spawns.{Spawns, was, not_parent, ran, spawned-kept, spawned_more, spawned_burdens, spawned-worker}
+use Rattle.laws.proofs.Spawns.{Spawns, was, not_parent, spawned-kept, spawned_more, spawned_burdens, spawned-worker}
 use Rattle.laws.proofs.Standing.{counted_sound}
 use Rattle.laws.proofs.Sums.{times_cons}
 use Rattle.laws.proofs.Taking.{and_on, lost_fresh, taken_sound}

@@ -1,8 +1,7 @@
 -- A worker that spawns an async row into its fresh queue: what holds of the board is kept. Assumes nothing.
-use Rattle.std.proofs.Common.{◌≡◌, ℕ, ◌+◌, ◌-◌, ◌<◌, ◌≤◌, Bool, true, false, cond, not, ◌&&◌, ◌||◌, eqb, ◌≢◌, ◌⊎◌, List, ◌∷◌, length, get_or, set, Some, None, sum_by, Option, unwrap_or, sym, refl, ap, ◌∙◌, subst, inl, inr, ⊎_elim, arith, length-set}
+use Rattle.std.proofs.Common.{◌≡◌, ℕ, ◌+◌, ◌<◌, ◌≤◌, true, false, not, ◌&&◌, eqb, ◌≢◌, ◌⊎◌, ◌∷◌, length, Some, None, sum_by, unwrap_or, sym, refl, ap, ◌∙◌, subst, inl, inr, ⊎_elim, arith, length-set}
 use Rattle.std.proofs.lemmas.List.Sums.{sum_by-set}
-use Rattle.std.proofs.lemmas.Bool.{cases_eq, cases_Bool, both_ways, and_from, and_parts, or_right, eq-eqb, ne_eqb, eqb-true}
-use Rattle.job.specs.declared.row.Row.{Row}
+use Rattle.std.proofs.lemmas.Bool.{cases_Bool, both_ways, and_from, or_right, eq-eqb, ne_eqb}
 use Rattle.job.specs.Rows.{row, is_finish, is_async, is_task, end, owner}
 use Rattle.job.specs.Lawful.{Lawful}
 use Rattle.job.proofs.LawfulRows.{ends-after}
@@ -10,7 +9,7 @@ use Rattle.rules.specs.declared.state.Position.{Position}
 use Rattle.rules.specs.declared.state.TaskState.{TaskState}
 use Rattle.rules.specs.declared.state.TaskState.TheVariants.{Unspawned, Fresh, Preempted, Running, Suspended, Ended}
 use Rattle.rules.specs.declared.state.WorkerState.{WorkerState}
-use Rattle.rules.specs.declared.state.WorkerState.TheVariants.{Idle, Stands, Out}
+use Rattle.rules.specs.declared.state.WorkerState.TheVariants.{Stands, Out}
 use Rattle.rules.specs.Words.{finish_of, within, onto}
 use Rattle.rules.specs.Boards.{Worker, no_worker, Board, worker, task, live, to_state, to_fresh, task_of}
 use Rattle.rules.specs.Loads.{lawful_workers}
@@ -18,10 +17,10 @@ use Rattle.rules.specs.Placing.{raised, helps_first}
 use Rattle.rules.specs.Sound.{one, has, times, is_unspawned, is_unbegun, is_fresh, is_preempted, is_running, is_ended, is_begun, is_live, is_before_work, position_of, stopped, burden, is_live_task, live_in, live_number, spawned, keeper, parent, LawfulPosition, Shaped, Placed, Positioned, Counted, Waited, Ahead, Ending, Kept}
 use Rattle.laws.proofs.Changes.{at_set, task_of_position, stands_here, runs, alone}
 use Rattle.laws.proofs.Endings.{live_here, live_later, finish-before}
-use Rattle.laws.proofs.Positions.{inner_here, inner_owner, inner_async, next_near, next_row, next_later, next_task, onto-lawful, next_finish, next_finish_beyond, owner-around}
-use Rattle.laws.proofs.Rows.{async_later, finish_of-here, within_self}
+use Rattle.laws.proofs.Positions.{inner_owner, inner_async, next_row, next_later, next_task, onto-lawful, next_finish, next_finish_beyond, owner-around}
+use Rattle.laws.proofs.Rows.{finish_of-here, within_self}
 use Rattle.laws.proofs.States.{running_is}
-use Rattle.laws.proofs.Sums.{times_cons, sum-set_same, sum_below_same, sum_below_change}
+use Rattle.laws.proofs.Sums.{times_cons, sum-set_same, sum_below_change}
 
 unspawned_is : (s : TaskState) → is_unspawned s ≡ true → s ≡ Unspawned
 unspawned_is Unspawned y = refl

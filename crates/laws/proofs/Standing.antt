@@ -1,21 +1,20 @@
 -- The rules by which a worker goes on in its task: boards stay sound. Assumes nothing.
-use Rattle.std.proofs.Common.{◌≡◌, ℕ, ◌+◌, ◌<◌, ◌≤◌, Bool, true, false, cond, eqb, ltb, leb, ◌≢◌, ◌⊎◌, List, length, get_or, set, Some, None, sum_by, Option, sym, refl, ap, ◌∙◌, subst, inl, inr, ⊎_elim, arith}
-use Rattle.std.proofs.lemmas.Bool.{cond_both, cases_Bool, cases_eq, both_ways, and_parts, leb-true, leb-false}
-use Rattle.job.specs.Rows.{row, is_finish, is_async, end}
+use Rattle.std.proofs.Common.{◌≡◌, ℕ, ◌+◌, ◌<◌, ◌≤◌, true, leb, ◌≢◌, length, Some, None, sym, refl, ap, ◌∙◌, arith}
+use Rattle.std.proofs.lemmas.Bool.{cond_both, and_parts, leb-true, leb-false}
+use Rattle.job.specs.Rows.{row, is_finish, end}
 use Rattle.job.proofs.LawfulRows.{ends-after}
 use Rattle.rules.specs.declared.state.Position.{Position}
-use Rattle.rules.specs.declared.state.TaskState.TheVariants.{Suspended}
 use Rattle.rules.specs.declared.state.WorkerState.{WorkerState}
 use Rattle.rules.specs.declared.state.WorkerState.TheVariants.{Idle, Stands, Out}
 use Rattle.rules.specs.Words.{inside, finish_of, within, onto, into}
-use Rattle.rules.specs.Boards.{Worker, no_worker, Board, worker, task, live, to_state, with_worker, stands}
+use Rattle.rules.specs.Boards.{Worker, no_worker, Board, worker, live, to_state, with_worker, stands}
 use Rattle.rules.specs.Closing.{out_of}
-use Rattle.rules.specs.Loads.{lawful_figures, most_figure}
+use Rattle.rules.specs.Loads.{most_figure}
 use Rattle.rules.specs.Placing.{settled, counts_spawn}
-use Rattle.rules.specs.Sound.{is_before_work, position_of, burden, is_live_task, keeper, spawned, LawfulPosition, Kept, Sound}
+use Rattle.rules.specs.Sound.{is_before_work, position_of, burden, is_live_task, keeper, LawfulPosition, Kept, Sound}
 use Rattle.laws.proofs.Changes.{at_set, stands_here}
 use Rattle.laws.proofs.Endings.{counts}
-use Rattle.laws.proofs.Positions.{inner_here, next_near, next_row, into-lawful, onto-lawful, inner_near, out_lawful}
+use Rattle.laws.proofs.Positions.{next_near, next_row, into-lawful, onto-lawful, inner_near, out_lawful}
 use Rattle.laws.proofs.Repositions.{Moves, moved_kept, moved_burdens}
 use Rattle.laws.proofs.Rows.{within_deeper, within_outer}
 

@@ -1,5 +1,5 @@
 -- What has become of a task, told by tests. Assumes nothing.
-use Rattle.std.proofs.Common.{◌≡◌, ℕ, true, false, ◌⊎◌, List, Some, None, refl, inl, inr}
+use Rattle.std.proofs.Common.{◌≡◌, ℕ, true, false, ◌⊎◌, List, Some, refl, inl, inr}
 use Rattle.std.proofs.lemmas.Bool.{both_ways}
 use Rattle.job.specs.declared.row.Row.{Row}
 use Rattle.rules.specs.declared.state.TaskState.{TaskState}

@@ -1,21 +1,19 @@
 -- Every call keeps a board sound. Assumes nothing.
-use Rattle.std.proofs.Common.{◌≡◌, ℕ, ◌+◌, ◌-◌, ◌<◌, ◌≤◌, Bool, true, false, cond, not, ◌&&◌, eqb, ltb, leb, ◌≢◌, ◌⊎◌, List, length, Some, None, Option, sym, refl, ap, ◌∙◌, subst, inl, inr, ⊎_elim, arith}
-use Rattle.std.proofs.lemmas.Bool.{cond_both, cond-true, cond-false, cases_Bool, cases_eq, both_ways, and_parts, and_from, eqb-true, eqb-false, ltb-true, leb-false, not-true, not_from_false, ne_eqb}
+use Rattle.std.proofs.Common.{◌≡◌, ℕ, ◌-◌, ◌<◌, true, false, cond, not, ◌&&◌, eqb, ltb, leb, length, Some, None, Option, sym, refl, ap, subst, arith}
+use Rattle.std.proofs.lemmas.Bool.{cond_both, and_parts, eqb-true, eqb-false, ltb-true, leb-false}
 use Rattle.deque.specs.Queues.{top}
-use Rattle.job.specs.Rows.{row, is_work, is_finish, is_async, end, owner}
-use Rattle.job.proofs.LawfulRows.{work_from}
-use Rattle.rules.specs.declared.met.Met.{Met}
+use Rattle.job.specs.Rows.{row, is_finish, is_async, end, owner}
 use Rattle.rules.specs.declared.met.Met.TheVariants.{Work, Finish, Async, FinishEnd, AsyncEnd}
 use Rattle.rules.specs.declared.state.Position.{Position}
 use Rattle.rules.specs.declared.state.WorkerState.{WorkerState}
 use Rattle.rules.specs.declared.state.WorkerState.TheVariants.{Idle, Stands, Out}
 use Rattle.rules.specs.Words.{finish_of, meets_row, meets_end, meets}
-use Rattle.rules.specs.Boards.{Worker, Board, worker, task, live, with_live, leaves}
-use Rattle.rules.specs.Steps.{Dealt, refused, ends_finish, ends_task, after_end, suspended_at, acts, steals_from, looks_at, turns, deals}
-use Rattle.rules.specs.Sound.{position_of, is_before_work, LawfulPosition, Kept, Sound}
+use Rattle.rules.specs.Boards.{Board, worker, task, live, with_live, leaves}
+use Rattle.rules.specs.Steps.{Dealt, ends_finish, ends_task, suspended_at, acts, steals_from, looks_at, turns, deals}
+use Rattle.rules.specs.Sound.{position_of, LawfulPosition, Sound}
 use Rattle.rules.specs.declared.state.TaskState.TheVariants.{Ended}
 use Rattle.laws.proofs.Closings.{closes_sound}
-use Rattle.laws.proofs.Positions.{inner_async, inner_here, next_row}
+use Rattle.laws.proofs.Positions.{inner_async}
 use Rattle.laws.proofs.Spawning.{placed_sound}
 use Rattle.laws.proofs.Standing.{opened_sound}
 use Rattle.laws.proofs.Stopping.{suspends_sound, picks_on, resumes_sound}

@@ -1,27 +1,25 @@
 -- The rules by which a worker is done with its task for now or for good: boards are sound after them. Assumes nothing.
-use Rattle.std.proofs.Common.{◌≡◌, ℕ, ◌+◌, ◌-◌, ◌<◌, ◌≤◌, Bool, true, false, cond, ◌&&◌, eqb, ◌≢◌, ◌⊎◌, List, length, get_or, set, Some, None, sum_by, Option, sym, refl, ap, ◌∙◌, subst, inl, inr, ⊎_elim, arith, length-set}
+use Rattle.std.proofs.Common.{◌≡◌, ℕ, ◌-◌, ◌<◌, ◌≤◌, true, false, ◌&&◌, eqb, ◌≢◌, length, set, Some, sum_by, sym, refl, ap, ◌∙◌, subst, ⊎_elim, arith, length-set}
 use Rattle.std.proofs.lemmas.List.{set-get_or}
-use Rattle.std.proofs.lemmas.Bool.{cond_both, cond-true, cond-false, cases_Bool, cases_eq, both_ways, and_parts, and_cases, eq-eqb, eqb-true, eqb-false}
+use Rattle.std.proofs.lemmas.Bool.{cases_eq, both_ways, and_parts, and_cases, eq-eqb, eqb-true, eqb-false}
 use Rattle.job.specs.Rows.{row, is_finish, is_async, end, owner}
 use Rattle.job.specs.Lawful.{Lawful}
 use Rattle.rules.specs.declared.state.Position.{Position}
 use Rattle.rules.specs.declared.state.TaskState.{TaskState}
 use Rattle.rules.specs.declared.state.TaskState.TheVariants.{Unspawned, Fresh, Preempted, Running, Suspended, Ended}
-use Rattle.rules.specs.declared.state.WorkerState.{WorkerState}
-use Rattle.rules.specs.declared.state.WorkerState.TheVariants.{Idle, Stands, Out}
+use Rattle.rules.specs.declared.state.WorkerState.TheVariants.{Idle, Stands}
 use Rattle.rules.specs.Words.{finish_of}
-use Rattle.rules.specs.Boards.{Worker, no_worker, Board, worker, task, live, to_state, with_worker, with_live, stands, leaves, resumes, takes_up}
-use Rattle.rules.specs.Closing.{out_of, ends_run, closes}
+use Rattle.rules.specs.Boards.{Worker, no_worker, Board, worker, task, live, to_state, with_worker, leaves, resumes, takes_up}
+use Rattle.rules.specs.Closing.{closes}
 use Rattle.rules.specs.Picking.{picks}
 use Rattle.rules.specs.Steps.{suspended_at}
-use Rattle.rules.specs.Sound.{one, times, is_fresh, is_preempted, is_running, is_begun, is_live, is_ended, position_of, stopped, burden, spawned, LawfulPosition, Kept, Sound}
+use Rattle.rules.specs.Sound.{one, is_fresh, is_preempted, is_running, is_live, position_of, stopped, burden, spawned, LawfulPosition, Kept, Sound}
 use Rattle.laws.proofs.Changes.{at_set, task_here, stands_here}
 use Rattle.laws.proofs.Closings.{running_not, closes_sound}
-use Rattle.laws.proofs.Endings.{ended-task, ended-kept, ended_burdens, ended-spawned, ended_ran, some-live, first-task, last_kept, last_burdens, last_spawned, last_ran, last_nobody, queues_empty}
+use Rattle.laws.proofs.Endings.{ended-task, ended-kept, ended_burdens, ended-spawned, ended_ran}
 use Rattle.laws.proofs.Leaves.{Leaves, ran, left-kept, left-spawned, left_burdens}
-use Rattle.laws.proofs.Positions.{inner_here, inner_owner, inner_async}
+use Rattle.laws.proofs.Positions.{inner_owner}
 use Rattle.laws.proofs.Rows.{finish-here, async_later, finish_is}
-use Rattle.laws.proofs.Standing.{closed_sound}
 use Rattle.laws.proofs.Taking.{Between, and_off, taken_sound, picks_sound}
 use Rattle.laws.proofs.TakesUp.{Takes}
 

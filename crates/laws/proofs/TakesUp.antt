@@ -1,19 +1,17 @@
 -- An idle worker that takes up a task: what holds of the board is kept. Assumes nothing.
-use Rattle.std.proofs.Common.{◌≡◌, ℕ, ◌+◌, ◌<◌, ◌≤◌, Bool, true, false, cond, not, ◌&&◌, eqb, ◌≢◌, ◌⊎◌, List, length, get_or, set, Some, None, sum_by, Option, sym, refl, ap, ◌∙◌, subst, inl, inr, ⊎_elim, arith, length-set}
-use Rattle.std.proofs.lemmas.List.{get_or-set_same, get_or-set_other}
+use Rattle.std.proofs.Common.{◌≡◌, ℕ, ◌+◌, ◌<◌, ◌≤◌, Bool, true, false, not, ◌&&◌, eqb, ◌≢◌, length, Some, sum_by, sym, refl, ap, ◌∙◌, subst, ⊎_elim, arith, length-set}
 use Rattle.std.proofs.lemmas.List.Sums.{sum_by-set}
-use Rattle.std.proofs.lemmas.Bool.{cases_eq, cases_Bool, both_ways, eq-eqb, ne_eqb, eqb-true}
-use Rattle.job.specs.declared.row.Row.{Row}
-use Rattle.job.specs.Rows.{row, is_async, is_task, end}
+use Rattle.std.proofs.lemmas.Bool.{both_ways, eq-eqb, ne_eqb}
+use Rattle.job.specs.Rows.{row, is_async}
 use Rattle.rules.specs.declared.state.Position.{Position}
 use Rattle.rules.specs.declared.state.TaskState.{TaskState}
-use Rattle.rules.specs.declared.state.TaskState.TheVariants.{Unspawned, Fresh, Preempted, Running, Suspended, Ended}
+use Rattle.rules.specs.declared.state.TaskState.TheVariants.{Unspawned, Running}
 use Rattle.rules.specs.declared.state.WorkerState.{WorkerState}
 use Rattle.rules.specs.declared.state.WorkerState.TheVariants.{Idle, Stands, Out}
-use Rattle.rules.specs.Words.{finish_of, within, begins}
+use Rattle.rules.specs.Words.{finish_of, within}
 use Rattle.rules.specs.Boards.{Worker, no_worker, Board, worker, task, to_state, with_worker, task_of, resumes, takes_up}
 use Rattle.rules.specs.Loads.{lawful_workers}
-use Rattle.rules.specs.Sound.{one, has, times, is_unspawned, is_unbegun, is_fresh, is_preempted, is_running, is_ended, is_begun, is_live, is_before_work, position_of, stopped, burden, sum_below, is_live_task, live_in, live_number, spawned, keeper, parent, LawfulPosition, Shaped, Placed, Positioned, Counted, Waited, Ahead, Ending, Kept}
+use Rattle.rules.specs.Sound.{one, has, times, is_unspawned, is_unbegun, is_fresh, is_preempted, is_running, is_ended, is_begun, is_live, is_before_work, position_of, stopped, burden, is_live_task, live_in, spawned, keeper, parent, LawfulPosition, Shaped, Placed, Positioned, Counted, Waited, Ahead, Ending, Kept}
 use Rattle.laws.proofs.Changes.{at_set, task_here}
 use Rattle.laws.proofs.Positions.{begins-lawful}
 use Rattle.laws.proofs.States.{resumes-task, waiting_cases, live-spawned, live_unended}

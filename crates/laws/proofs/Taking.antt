@@ -1,18 +1,15 @@
 -- The rules by which a worker comes by a task: it picks, it steals, or it takes an owner. Boards are sound after them. Assumes nothing.
-use Rattle.std.proofs.Common.{◌≡◌, ℕ, ◌+◌, ◌<◌, ◌≤◌, Bool, true, false, cond, ◌&&◌, eqb, ◌≢◌, ◌⊎◌, List, length, get_or, set, Some, None, sum_by, Option, sym, refl, ap, ◌∙◌, subst, inl, inr, ⊎_elim, arith, length-set}
-use Rattle.std.proofs.lemmas.List.{set-get_or, get_or-set_same, get_or-set_other}
+use Rattle.std.proofs.Common.{◌≡◌, ℕ, ◌+◌, ◌<◌, ◌≤◌, Bool, true, false, ◌&&◌, eqb, ◌≢◌, length, set, Some, None, sum_by, Option, sym, refl, ap, ◌∙◌, subst, ⊎_elim, arith, length-set}
 use Rattle.std.proofs.lemmas.List.Sums.{get_or-le-sum_by}
-use Rattle.std.proofs.lemmas.Bool.{cond_both, cases_Bool, cases_eq, both_ways, eq-eqb}
+use Rattle.std.proofs.lemmas.Bool.{cond_both, cases_Bool, cases_eq, both_ways}
 use Rattle.deque.specs.Queues.{bottom, above_bottom, top, below_top}
-use Rattle.rules.specs.declared.state.Position.{Position}
 use Rattle.rules.specs.declared.state.TaskState.{TaskState}
 use Rattle.rules.specs.declared.state.TaskState.TheVariants.{Unspawned, Running, Suspended}
-use Rattle.rules.specs.declared.state.WorkerState.{WorkerState}
-use Rattle.rules.specs.declared.state.WorkerState.TheVariants.{Idle, Stands, Out}
+use Rattle.rules.specs.declared.state.WorkerState.TheVariants.{Idle, Stands}
 use Rattle.rules.specs.Boards.{Worker, no_worker, Board, worker, task, live, to_state, to_preempted, to_fresh, with_worker, resumes, takes_up}
 use Rattle.rules.specs.Picking.{takes_preempted, takes_fresh, prefers_preempted, picks_from, picks}
 use Rattle.rules.specs.Steps.{robbed}
-use Rattle.rules.specs.Sound.{one, times, is_fresh, is_preempted, is_running, is_live, burden, spawned, Placed, Kept, Sound}
+use Rattle.rules.specs.Sound.{one, times, is_fresh, is_preempted, is_live, burden, spawned, Placed, Kept, Sound}
 use Rattle.laws.proofs.Changes.{at_set, task_here}
 use Rattle.laws.proofs.Queues.{bottom-taken, bottom-length, bottom_in, top_taken, top-length, top_in, no_bottom}
 use Rattle.laws.proofs.States.{fresh-live, preempted-live}

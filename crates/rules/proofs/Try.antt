@@ -1,15 +1,12 @@
-use Rattle.std.proofs.Common.{◌≡◌, ℕ, Bool, true, false, List, [], ◌∷◌, map, Some, None, Ok, Err, Option, Result, refl}
+use Rattle.std.proofs.Common.{◌≡◌, ℕ, List, [], ◌∷◌, map, Some, None, Ok, Option, refl}
 use Rattle.job.specs.declared.row.Row.{Row}
 use Rattle.job.specs.Rows.{end, around}
-use Rattle.job.specs.Lawful.{lowest_unlawful}
 use Rattle.rules.specs.declared.answer.Action.{Action}
 use Rattle.rules.specs.declared.answer.Action.TheVariants.{Open, First, Fresh, Close, Wait, End, Steal}
-use Rattle.rules.specs.declared.answer.Answer.{Answer}
 use Rattle.rules.specs.declared.state.Figures.{Figures}
-use Rattle.rules.specs.Boards.{Board, no_board}
-use Rattle.rules.specs.Loads.{load, loaded}
+use Rattle.rules.specs.Loads.{loaded}
 use Rattle.rules.specs.Slips.{Slip}
-use Rattle.rules.specs.Runs.{Call, steps, takes, hands_in, gives_back, Said, stepped, took, handed_in, Moment, history}
+use Rattle.rules.specs.Runs.{Call, steps, takes, hands_in, Said, stepped, took, handed_in, history}
 use Rattle.total.specs.Counts.{Number, number, zero_number, sum, kept}
 
 abbrev nested : List Row

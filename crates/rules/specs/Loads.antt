@@ -7,7 +7,7 @@
 --     loads rows lines n x       what a load answers, where the book has so many lines
 --     cleared rows book          each job line of a book set to nothing, and the lines past the job as they were
 --     load b rows book n x       a load with its board and its book
-use Rattle.std.specs.Prelude.{ℕ, ◌-◌, Bool, false, cond, ◌&&◌, List, [], ◌∷◌, ◌++◌, length, drop, replicate, Some, None, Ok, Err, Option, Result, nat_le, nat_lt}
+use Rattle.std.specs.Prelude.{ℕ, ◌-◌, Bool, false, cond, ◌&&◌, List, ◌∷◌, ◌++◌, length, drop, replicate, Some, None, Ok, Err, Option, Result, nat_le, nat_lt}
 use Rattle.job.specs.declared.row.Row.{Row}
 use Rattle.job.specs.Lawful.{countable, lowest_unlawful}
 use Rattle.rules.specs.declared.refusal.DealRefusal.{DealRefusal}

@@ -6,7 +6,7 @@
 --     take b w                   a take with its board
 --     hand_in b book slip x      the value goes to the row's line and is joined to its finish's line, and the worker moves past the row
 --     give_back b slip           the worker goes back to the row, if the slip is out here; answers whether it was
-use Rattle.std.specs.Prelude.{ℕ, ◌+◌, Bool, true, false, cond, List, length, set, Ok, Err, Result, ◌==◌, nat_le, nat_lt, slice_index_or, slice_set}
+use Rattle.std.specs.Prelude.{ℕ, ◌+◌, Bool, false, cond, List, length, set, Ok, Err, Result, ◌==◌, nat_le, nat_lt, slice_index_or, slice_set}
 use Rattle.rules.specs.declared.met.Met.{Met}
 use Rattle.rules.specs.declared.met.Met.TheVariants.{Work, Finish, Async, FinishEnd, AsyncEnd}
 use Rattle.rules.specs.declared.refusal.DealRefusal.{DealRefusal}
@@ -15,7 +15,7 @@ use Rattle.rules.specs.declared.state.Position.{Position}
 use Rattle.rules.specs.declared.state.WorkerState.{WorkerState}
 use Rattle.rules.specs.declared.state.WorkerState.TheVariants.{Idle, Stands, Out}
 use Rattle.rules.specs.Words.{finish_of, onto, meets}
-use Rattle.rules.specs.Boards.{Board, worker, to_state, with_worker, stands}
+use Rattle.rules.specs.Boards.{Board, worker, to_state, with_worker}
 use Rattle.rules.specs.Steps.{Outcome}
 
 pub record Slip : Type 0 where

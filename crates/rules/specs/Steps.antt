@@ -9,7 +9,7 @@
 --     deals b lines w v          a step of worker w with victim v, where the book has so many lines
 --     closed_by r                the finish row that an answer closes, if any
 --     step b book w v            a step with its book
-use Rattle.std.specs.Prelude.{ℕ, ◌+◌, ◌-◌, Bool, true, false, cond, not, ◌&&◌, List, length, Some, None, Ok, Err, Option, Result, ◌==◌, nat_le, nat_lt}
+use Rattle.std.specs.Prelude.{ℕ, ◌+◌, ◌-◌, Bool, false, cond, not, ◌&&◌, List, length, Some, None, Ok, Err, Option, Result, ◌==◌, nat_le, nat_lt}
 use Rattle.job.specs.Rows.{end, owner}
 use Rattle.deque.specs.Queues.{top, below_top}
 use Rattle.rules.specs.declared.answer.Action.{Action}

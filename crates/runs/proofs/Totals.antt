@@ -1,5 +1,5 @@
 -- Total records that are put one after the other. Assumes nothing.
-use Rattle.std.proofs.Common.{◌≡◌, ℕ, suc, ◌+◌, ◌*◌, ◌<◌, ◌≤◌, true, false, cond, List, [], ◌++◌, length, get_or, sym, refl, ap, ◌∙◌, append-nil, add-zero, add-one, arith, length-append}
+use Rattle.std.proofs.Common.{◌≡◌, ℕ, ◌+◌, ◌*◌, ◌<◌, ◌≤◌, true, false, List, ◌++◌, length, get_or, sym, ap, ◌∙◌, append-nil, add-zero, add-one, arith, length-append}
 use Rattle.std.proofs.lemmas.Bool.{cond-true, cond-false}
 use Rattle.job.specs.declared.row.Row.{Row}
 use Rattle.job.specs.Rows.{row, is_finish}

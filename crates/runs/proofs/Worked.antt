@@ -1,13 +1,13 @@
 -- The totals that a filled book prints are the serial totals over the marks. Assumes nothing.
-use Rattle.std.proofs.Common.{◌≡◌, ℕ, zero, suc, ◌<◌, ◌≤◌, true, false, cond, List, [], ◌++◌, map, length, get_or, Ok, Err, Result, sym, refl, ap, ◌∙◌, ⊎_elim, arith}
-use Rattle.std.proofs.lemmas.List.{get_or-map, length-map}
-use Rattle.std.proofs.lemmas.Bool.{cases_Bool, cond-true, cond-false}
+use Rattle.std.proofs.Common.{◌≡◌, ℕ, zero, suc, ◌<◌, ◌≤◌, true, cond, List, [], ◌++◌, map, length, get_or, Ok, sym, refl, ap, ◌∙◌, ⊎_elim, arith}
+use Rattle.std.proofs.lemmas.List.{get_or-map}
+use Rattle.std.proofs.lemmas.Bool.{cases_Bool, cond-false}
 use Rattle.job.specs.declared.row.Row.{Row}
 use Rattle.job.specs.Lawful.{checked}
-use Rattle.job.specs.Rows.{row, is_work, is_finish}
+use Rattle.job.specs.Rows.{row, is_finish}
 use Rattle.total.specs.declared.count.Count.{Count}
-use Rattle.total.specs.Counts.{Number, number, zero_number, sum, kept, count_text}
-use Rattle.total.specs.Serial.{line_of, serial, filled}
+use Rattle.total.specs.Counts.{Number, number, zero_number, sum, kept}
+use Rattle.total.specs.Serial.{line_of, filled}
 use Rattle.total.proofs.Filled.{filled-finish}
 use Rattle.total.proofs.SerialLaws.{serial_same}
 use Rattle.table.specs.RunTables.{total_record}

@@ -1,7 +1,6 @@
 -- A record that is put into an output piece by piece. Assumes nothing.
-use Rattle.std.proofs.Common.{◌≡◌, ℕ, ◌+◌, ◌<◌, ◌≤◌, List, ◌++◌, length, Ok, Err, decimal, Option, Result, sym, refl, ap, ◌∙◌, append_assoc, arith, length-append}
+use Rattle.std.proofs.Common.{◌≡◌, ℕ, ◌+◌, ◌<◌, ◌≤◌, List, ◌++◌, length, Ok, Err, decimal, Option, sym, ap, ◌∙◌, append_assoc, arith, length-append}
 use Rattle.std.proofs.lemmas.Fmt.{length-decimal-le}
-use Rattle.total.specs.declared.output.OutputShort.{OutputShort}
 use Rattle.total.specs.Outputs.{put, put_end}
 use Rattle.total.proofs.Outputs.{put-append, put_end-fits, put_short, put_end_short}
 use Rattle.table.specs.RunTables.{total_record, digits_if, refused_record}

@@ -1,5 +1,5 @@
 -- What the filling of a book answers, by how far the call came. Assumes nothing.
-use Rattle.std.proofs.Common.{◌≡◌, ℕ, ◌<◌, ◌≤◌, Bool, true, false, cond, ◌&&◌, leb, List, map, length, Ok, Err, Result, sym, refl, ap, ◌∙◌, subst, ⊎_elim, arith}
+use Rattle.std.proofs.Common.{◌≡◌, ℕ, ◌<◌, ◌≤◌, true, leb, List, length, Ok, Err, Result, sym, refl, ap, ◌∙◌, ⊎_elim, arith}
 use Rattle.std.proofs.lemmas.Bool.{cond-true, cond-false, cases_Bool, and_from, le-leb, lt-leb}
 use Rattle.job.specs.declared.row.Row.{Row}
 use Rattle.job.specs.declared.refusal.JobRefusal.{JobRefusal}
@@ -7,7 +7,6 @@ use Rattle.job.specs.declared.refusal.JobRefusal.TheVariants.{RowCount}
 use Rattle.job.specs.Lawful.{checked, countable, row_count}
 use Rattle.job.specs.Rows.{most_rows}
 use Rattle.job.proofs.Nests.{counted_is}
-use Rattle.total.specs.declared.book.BookRefusal.{BookRefusal}
 use Rattle.total.specs.declared.book.BookRefusal.TheVariants.{Job, Short}
 use Rattle.total.specs.Books.{in_book, filling}
 

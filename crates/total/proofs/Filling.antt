@@ -1,5 +1,5 @@
 -- A book that is filled in from the last row to the first. Assumes nothing.
-use Rattle.std.proofs.Common.{◌≡◌, ℕ, zero, suc, ◌+◌, ◌-◌, ◌<◌, ◌≤◌, Bool, true, false, cond, ◌||◌, eqb, leb, ◌≢◌, ◌⊎◌, List, [], ◌∷◌, map, length, get_or, set, sym, refl, ap, ◌∙◌, subst, inl, inr, ⊎_elim, arith}
+use Rattle.std.proofs.Common.{◌≡◌, ℕ, zero, suc, ◌+◌, ◌-◌, ◌<◌, ◌≤◌, true, false, eqb, leb, ◌≢◌, ◌⊎◌, List, [], ◌∷◌, map, length, get_or, set, sym, refl, ap, ◌∙◌, subst, inl, inr, ⊎_elim, arith}
 use Rattle.std.proofs.lemmas.List.{get_or-set_same, get_or-set_other, length-set, length-map, ext_get_or, map-set}
 use Rattle.std.proofs.lemmas.Bool.{cond-true, cond-false, cases_Bool, cases_lt, cases_eq, or_left, or_right, or_cases, leb-true, le-leb, ne_eqb, both_ways}
 use Rattle.job.specs.declared.row.Row.{Row}
@@ -7,7 +7,7 @@ use Rattle.job.specs.Rows.{row, is_work, is_finish, is_async}
 use Rattle.job.specs.Lawful.{Lawful}
 use Rattle.job.proofs.LawfulRows.{work_from}
 use Rattle.total.specs.Books.{keeps_line}
-use Rattle.total.specs.Serial.{line_of, gathered, lines, serial, filled_line, filled}
+use Rattle.total.specs.Serial.{line_of, gathered, serial, filled_line, filled}
 use Rattle.total.proofs.Filled.{length-filled, filled_at, filled_past}
 use Rattle.total.proofs.Gathering.{own-near, gathered_same}
 use Rattle.total.proofs.SerialLaws.{serial_rule}

@@ -1,10 +1,10 @@
 -- What a finish row gathers from its own rows. Assumes nothing.
-use Rattle.std.proofs.Common.{◌≡◌, ℕ, zero, suc, ◌+◌, ◌<◌, ◌≤◌, Bool, true, false, cond, eqb, ◌⊎◌, List, length, Some, None, Option, sym, refl, ap, ◌∙◌, subst, inl, inr, ⊎_elim, add-zero, add-suc, arith}
-use Rattle.std.proofs.lemmas.Bool.{cond-true, cond-false, cases_Bool, cases_lt, cases_eq, eqb-true, eq-eqb, both_ways}
+use Rattle.std.proofs.Common.{◌≡◌, ℕ, zero, suc, ◌+◌, ◌<◌, ◌≤◌, true, false, ◌⊎◌, List, Some, None, Option, sym, refl, ap, ◌∙◌, inl, inr, ⊎_elim, add-zero, add-suc, arith}
+use Rattle.std.proofs.lemmas.Bool.{cond-true, cond-false, cases_Bool, eqb-true, eq-eqb, both_ways}
 use Rattle.job.specs.declared.row.Row.{Row}
-use Rattle.job.specs.Rows.{row, end, is_work, is_finish, finish}
+use Rattle.job.specs.Rows.{row, is_work, is_finish, finish}
 use Rattle.job.proofs.Enclosing.{Nearest, around_is}
-use Rattle.total.specs.Serial.{is_at, own, with_line, gathered, lines, serial_by, serial, SerialTotals}
+use Rattle.total.specs.Serial.{is_at, own, with_line, gathered}
 
 is_at-some : (f : ℕ) (o : Option ℕ) → is_at f o ≡ true → o ≡ Some f
 is_at-some f None e = absurd (both_ways false refl e)

@@ -1,9 +1,9 @@
 -- The serial totals follow the rule, and nothing else does. Assumes nothing.
-use Rattle.std.proofs.Common.{◌≡◌, ℕ, zero, suc, ◌+◌, ◌<◌, ◌≤◌, true, false, cond, List, length, sym, refl, ap, ◌∙◌, ⊎_elim, arith}
+use Rattle.std.proofs.Common.{◌≡◌, ℕ, zero, suc, ◌+◌, ◌<◌, ◌≤◌, true, List, length, sym, refl, ap, ◌∙◌, ⊎_elim, arith}
 use Rattle.std.proofs.lemmas.Bool.{cond-true, cond-false, cases_Bool, both_ways}
 use Rattle.job.specs.declared.row.Row.{Row}
 use Rattle.job.specs.Rows.{row, is_work, is_finish}
-use Rattle.total.specs.Serial.{own, gathered, lines, serial_by, serial, SerialTotals, OneSerialTotal}
+use Rattle.total.specs.Serial.{gathered, lines, serial_by, serial, SerialTotals, OneSerialTotal}
 use Rattle.total.proofs.Gathering.{Brings, own-near, gathered_same}
 
 module _ {M : Type 0} (nothing : M) (join : M → M → M) (seal : ℕ → M → M) (rows : List Row) (value : ℕ → M) where

@@ -5,7 +5,7 @@
 --     keeps_line rows k          line k is a work row's, or lies past the job
 --     keeps rows answer k        whether line k stays the very same value: each one where the call is refused, else those lines
 --     changed fill answer book   the book after the call: as it was where it is refused, else filled in
-use Rattle.std.specs.Prelude.{ℕ, Bool, true, false, cond, ◌||◌, List, [], length, Ok, Err, Result, nat_le}
+use Rattle.std.specs.Prelude.{ℕ, Bool, true, cond, ◌||◌, List, [], length, Ok, Err, Result, nat_le}
 use Rattle.job.specs.declared.row.Row.{Row}
 use Rattle.job.specs.declared.refusal.JobRefusal.{JobRefusal}
 use Rattle.job.specs.declared.refusal.JobRefusal.TheVariants.{RowCount}

@@ -72,14 +72,15 @@ pub years_Decides : (x y : Years) → Decides (years_eq x y) (x ≡ y)
 years_Decides no_years no_years = (λ e. refl, λ e. refl)
 years_Decides no_years (years c d) = (λ e. cc, λ e. cc)
 years_Decides (years a b) no_years = (λ e. cc, λ e. cc)
-years_Decides (years a b) (years c d) =
-    (λ e.
-        let p = and_parts (int_eq a c) (int_eq b d) e in
-        same_years a c b d ((signed_Decides a c).0 p.0) ((signed_Decides b d).0 p.1),
-     λ e.
-        let p : a ≡ c = cc in
-        let q : b ≡ d = cc in
-        and_from (int_eq a c) (int_eq b d) ((signed_Decides a c).1 p) ((signed_Decides b d).1 q))
+years_Decides (years a b) (years c d) = (
+  λ e.
+      let p = and_parts (int_eq a c) (int_eq b d) e in
+      same_years a c b d ((signed_Decides a c).0 p.0) ((signed_Decides b d).0 p.1),
+  λ e.
+      let p : a ≡ c = cc in
+      let q : b ≡ d = cc in
+      and_from (int_eq a c) (int_eq b d) ((signed_Decides a c).1 p) ((signed_Decides b d).1 q),
+)
 
 pub years_equiv : IsEquivalence years_eq
 years_equiv = decided years_eq years_Decides

@@ -1,4 +1,3 @@
-use Rattle.std.proofs.Common.{◌∙◌, arith}
 use Rattle.deque.specs.Deques.{rows_in}
 use Rattle.deque.proofs.Rings.{some-bottom, popped_bottom}
 use Rattle.deque.proofs.Deque.pop_bottom.Goals as goal

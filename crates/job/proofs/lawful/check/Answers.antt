@@ -1,4 +1,4 @@
-use Rattle.std.proofs.Common.{◌≡◌, length, sym, ap, ◌∙◌, subst}
+use Rattle.std.proofs.Common.{length, sym, ap, ◌∙◌, subst}
 use Rattle.job.specs.Lawful.{verdict, Judged}
 use Rattle.job.proofs.Nests.{counted_is, judged, judged_is, granted_nests}
 use Rattle.job.proofs.lawful.check.Goals as goal

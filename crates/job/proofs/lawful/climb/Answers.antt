@@ -1,4 +1,4 @@
-use Rattle.std.proofs.Common.{◌≡◌, ◌<◌, ◌≤◌, arith}
+use Rattle.std.proofs.Common.{◌<◌, ◌≤◌, arith}
 use Rattle.job.specs.Rows.{end}
 use Rattle.job.proofs.Climbing.{not_first, lower, passed_more, passed_all}
 use Rattle.job.proofs.lawful.climb.Goals as goal

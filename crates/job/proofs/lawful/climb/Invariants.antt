@@ -1,4 +1,4 @@
-use Rattle.std.proofs.Common.{ℕ, ◌<◌, ◌≤◌}
+use Rattle.std.proofs.Common.{◌<◌}
 use Rattle.job.proofs.Climbing.{Passed}
 use Rattle.job.proofs.lawful.climb.Given as goal
 

@@ -1,7 +1,7 @@
-use Rattle.std.proofs.Common.{◌≡◌, Bool, true, ◌&&◌, eqb, length, sym, ap, ◌∙◌, subst}
+use Rattle.std.proofs.Common.{◌≡◌, Bool, true, ◌&&◌, eqb, length, ap, ◌∙◌}
 use Rattle.job.specs.declared.row.Row.{Row}
 use Rattle.job.specs.Rows.{is_finish}
-use Rattle.job.specs.Lawful.{whole_job, known_kind, own_shape}
+use Rattle.job.specs.Lawful.{known_kind, own_shape}
 use Rattle.job.proofs.LawfulRows.{first-lawful}
 use Rattle.job.proofs.lawful.first_is_lawful.Goals as goal
 

@@ -1,7 +1,7 @@
-use Rattle.std.proofs.Common.{◌≡◌, ℕ, ◌+◌, ◌<◌, true, ◌≢◌, length, get_or, set, Some, None, sym, ap, ◌∙◌, subst, ⊎_elim, arith, below_more}
+use Rattle.std.proofs.Common.{◌≡◌, ℕ, true, get_or, set, Some, None, sym, ap, ◌∙◌, subst, ⊎_elim, arith, below_more}
 use Rattle.std.proofs.lemmas.List.{get_or-set_same, get_or-set_other}
 use Rattle.std.proofs.lemmas.Bool.{cases_eq}
-use Rattle.job.specs.Rows.{end, nearest}
+use Rattle.job.specs.Rows.{nearest}
 use Rattle.job.specs.Lawful.{lawful_row}
 use Rattle.job.proofs.Climbing.{lower}
 use Rattle.job.proofs.LawfulRows.{whole-end, unlawful_at, unlawful_none}

@@ -1,4 +1,4 @@
-use Rattle.std.proofs.Common.{◌≡◌, ℕ, ◌<◌, true, length, get_or, Some}
+use Rattle.std.proofs.Common.{◌≡◌, ℕ, ◌<◌, true, get_or, Some}
 use Rattle.job.specs.Rows.{nearest}
 use Rattle.job.specs.Lawful.{lawful_row}
 use Rattle.job.proofs.lawful.first_unlawful.Given as goal

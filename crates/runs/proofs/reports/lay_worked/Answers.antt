@@ -1,4 +1,4 @@
-use Rattle.std.proofs.Common.{◌≡◌, ◌+◌, ◌≤◌, length, sym, ap, ◌∙◌, arith}
+use Rattle.std.proofs.Common.{◌+◌, length, ap, ◌∙◌, arith}
 use Rattle.job.specs.Lawful.{checked}
 use Rattle.total.specs.Outputs.{put}
 use Rattle.total.proofs.Answering.{fill_all, checked_from}

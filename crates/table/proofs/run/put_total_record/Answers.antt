@@ -1,4 +1,4 @@
-use Rattle.std.proofs.Common.{ℕ, ◌+◌, ◌<◌, ◌≤◌, length, codes, decimal, sym, refl, arith}
+use Rattle.std.proofs.Common.{◌+◌, ◌≤◌, length, codes, decimal, sym, refl, arith}
 use Rattle.std.proofs.lemmas.Bool.{leb-false, leb-true}
 use Rattle.table.specs.RunTables.{line_end, total_record}
 use Rattle.table.proofs.Laying.{laid_five, refused_short, length_total}

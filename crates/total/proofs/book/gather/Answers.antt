@@ -1,10 +1,10 @@
-use Rattle.std.proofs.Common.{◌≡◌, ℕ, ◌+◌, ◌<◌, ◌≤◌, cond, List, map, length, get_or, sym, refl, ap, ◌∙◌, subst, arith}
+use Rattle.std.proofs.Common.{◌≡◌, ◌+◌, ◌<◌, cond, map, length, sym, ap, ◌∙◌, subst, arith}
 use Rattle.std.proofs.lemmas.List.{get_or-map}
 use Rattle.job.specs.declared.row.Row.{Row}
 use Rattle.job.specs.Rows.{row, end, is_finish}
 use Rattle.job.proofs.Nests.{ends_in_job}
 use Rattle.total.specs.Serial.{line_of, with_line, gathered}
-use Rattle.total.proofs.Walking.{At, Turn, turn, at_start, sum_start, sum_all}
+use Rattle.total.proofs.Walking.{Turn, turn, at_start, sum_start, sum_all}
 use Rattle.total.proofs.book.gather.Given as given
 use Rattle.total.proofs.book.gather.Goals as goal
 use Rattle.total.proofs.book.gather.Goals.{After-row_at-x, After-next_row-r}

@@ -1,4 +1,4 @@
-use Rattle.std.proofs.Common.{◌≡◌, ◌-◌, ◌≤◌, map, length}
+use Rattle.std.proofs.Common.{◌≡◌, ◌-◌, map}
 use Rattle.job.specs.Rows.{end}
 use Rattle.total.specs.Serial.{line_of, gathered}
 use Rattle.total.proofs.Walking.{At}

@@ -1,8 +1,7 @@
-use Rattle.std.proofs.Common.{◌≡◌, ◌∷◌, map, take, length, refl, sym, ap, ◌∙◌}
-use Rattle.job.specs.Layouts.{laid}
+use Rattle.std.proofs.Common.{◌∷◌, refl, ap, ◌∙◌}
 use Rattle.rules.specs.declared.state.TaskState.TheVariants.{Fresh}
 use Rattle.rules.specs.declared.state.WorkerState.TheVariants.{Stands}
-use Rattle.rules.specs.Boards.{Worker, Board, to_state, to_fresh, with_task, with_worker}
+use Rattle.rules.specs.Boards.{Worker, Board, to_state, to_fresh, with_task}
 use Rattle.board.proofs.Views.{same_board, workers-changed}
 use Rattle.board.proofs.tables.Tables.help_first.Goals as goal
 

@@ -1,4 +1,4 @@
-use Rattle.std.proofs.Common.{◌≡◌, true, sym, refl, ap, ◌∙◌, arith}
+use Rattle.std.proofs.Common.{ap, ◌∙◌, arith}
 use Rattle.job.specs.declared.entry.Entry.{Entry}
 use Rattle.job.specs.Rows.{row, is_finish}
 use Rattle.job.specs.Layouts.{laid as laid-rows}

@@ -1,8 +1,7 @@
-use Rattle.std.proofs.Common.{◌≡◌, ◌<◌, ◌≤◌, length, None, sym, refl, ap, ◌∙◌, subst, arith}
-use Rattle.job.specs.Lawful.{Lawful, verdict, lowest_unlawful}
+use Rattle.std.proofs.Common.{◌≡◌, length, sym, ap, ◌∙◌, arith}
+use Rattle.job.specs.Lawful.{verdict}
 use Rattle.job.proofs.Nests.{counted_is, judged_is, lowest_none, verdict_none}
 use Rattle.job.proofs.InnerEntries.{rows-laid, laid-right}
-use Rattle.job.proofs.layout.Layout.lay.Given as given
 use Rattle.job.proofs.layout.Layout.lay.Goals as goal
 
 pub fill_entries-requires : goal.fill_entries-requires

@@ -1,6 +1,6 @@
-use Rattle.std.proofs.Common.{◌≡◌, true, sym, refl, ap, ◌∙◌, arith}
+use Rattle.std.proofs.Common.{true, refl, ap, ◌∙◌, arith}
 use Rattle.job.specs.declared.entry.Entry.{Entry}
-use Rattle.job.proofs.Laid.{laid_out, enclosed-some, around_outside, around-inside, first-finish}
+use Rattle.job.proofs.Laid.{laid_out, enclosed-some, around_outside, around-inside}
 use Rattle.job.proofs.layout.Layout.nearest.Goals as goal
 
 pub returns-in_err-enclosed : goal.returns-in_err-enclosed

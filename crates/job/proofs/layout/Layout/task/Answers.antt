@@ -1,8 +1,8 @@
-use Rattle.std.proofs.Common.{◌≡◌, true, sym, refl, ap, ◌∙◌, arith}
+use Rattle.std.proofs.Common.{refl, ap, ◌∙◌, arith}
 use Rattle.job.specs.declared.entry.Entry.{Entry}
 use Rattle.job.specs.Rows.{is_task}
 use Rattle.job.specs.Layouts.{laid as laid-rows}
-use Rattle.job.proofs.Laid.{laid_out, enclosed-some, around_outside, around-inside, first-finish}
+use Rattle.job.proofs.Laid.{laid_out, enclosed-some, around_outside, around-inside}
 use Rattle.job.proofs.layout.Layout.task.Goals as goal
 
 pub returns-in_err-enclosed : goal.returns-in_err-enclosed

@@ -1,4 +1,4 @@
-use Rattle.std.proofs.Common.{◌≡◌, ◌<◌, ◌≤◌, length, get_or, sym, subst, arith, length-set}
+use Rattle.std.proofs.Common.{sym, subst, arith, length-set}
 use Rattle.job.specs.Entries.{EntryOf}
 use Rattle.job.proofs.Climbing.{lower}
 use Rattle.job.proofs.InnerEntries.{first-right, inner_right, entries_more}
