@@ -1,4 +1,5 @@
--- Numbers below 2^64. Assumes nothing.
+-- Why counts show the laws of a kind of total. A lemma alone: the words are those of Counts. Assumes nothing.
+--     same_number                numbers below 2^64 of the same value are the same
 use Rattle.std.specs.Prelude.{◌≡◌, ◌^◌, ◌<◌}
 use mathlib.Core.HLevel.{is_prop→PathP}
 use Rattle.std.proofs.Math.Bridge.{le_prop}

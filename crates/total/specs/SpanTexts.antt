@@ -1,4 +1,7 @@
--- The text of a span. Assumes nothing.
+-- How long the text of a span is. Lemmas alone: the words are those of Spans. Assumes nothing.
+--     signed_below               the text of a year below 0
+--     years_short, text_short    the text of a year in range has at most five bytes, and that of a span at most eleven
+--     length_text, no_text       the length of a span's text, and that no years have no bytes
 use Rattle.std.specs.Prelude.{◌≡◌, suc, ◌+◌, ◌≤◌, true, false, [], ◌∷◌, length, ℤ, pos, negsuc, ◌≤ℤ◌, ◌<ℤ◌, decimal, unsigned_abs, refl}
 use Rattle.std.proofs.Common.{◌∙◌, ap, zero-le, arith, length-append}
 use Rattle.std.specs.Fmt.{signed_decimal}

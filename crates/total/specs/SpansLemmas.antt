@@ -1,4 +1,8 @@
--- Spans of years. Assumes nothing.
+-- Why spans show the laws of a kind of total and of equality. Lemmas alone: the words are those of Spans. Assumes nothing.
+--     hull_assoc, hull_comm, hull_none      the laws of the join
+--     hull_is, hull_by                      the join is the shortest span that holds both
+--     no_meaning, in_order_parts, hull_meaning      what the fields of a span say of its meaning
+--     years_Decides, years_equiv            the test of two meanings answers whether they are the same
 use Rattle.std.specs.Cmp.{IsEquivalence, decided, signed_Decides}
 use Rattle.std.specs.Ordering.{int_eq}
 use Rattle.std.specs.Prelude.{Decides, ◌≡◌, true, false, ℤ, pos, negsuc, ◌≤ℤ◌, int_le, refl}
