@@ -1,9 +1,9 @@
-mod Ends
 mod Examples
 mod Fronts
 pub mod Laying
 mod Numbers
 mod Pieces
+mod Progress
 mod Quotes
 mod RoundTrip
 mod Scans

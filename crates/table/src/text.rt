@@ -4,7 +4,7 @@ ghost use Rattle.table.specs.Faults.{text_number, text_told};
 ghost use Rattle.table.specs.Laws.{ReadsWritings};
 ghost use Rattle.table.specs.Texts.{at_line, read, counted, written};
 
-use crate::record::{RecordFault, entry_at, header_end};
+use crate::record::{RecordFault, Records};
 use job::{Refusal, Row};
 
 // Why a text is no job table, with the line of the first bad record. Lines count records.
@@ -28,18 +28,17 @@ impl Refusal for TextFault {
     fn number(&self) -> u8 {
         match self {
             TextFault::TooLong => 14,
-            TextFault::Record { line: _ } => 15,
-            TextFault::Field { line: _, field: _ } => 16,
-            TextFault::Full { line: _ } => 17,
+            TextFault::Record { .. } => 15,
+            TextFault::Field { .. } => 16,
+            TextFault::Full { .. } => 17,
         }
     }
 
     fn place(&self) -> Option<usize> {
         match self {
             TextFault::TooLong => None,
-            TextFault::Record { line } => Some(*line),
-            TextFault::Field { line, field: _ } => Some(*line),
-            TextFault::Full { line } => Some(*line),
+            TextFault::Record { line } | TextFault::Field { line, .. } | TextFault::Full { line } =>
+                Some(*line),
         }
     }
 }
@@ -72,15 +71,13 @@ fn count_rows(text: &[u8], room: usize) -> Result<usize, TextFault>
     if text.len() > MOST_BYTES {
         return Err(TextFault::TooLong);
     }
-    let mut at = header_end(text).at_line(1)?;
     let mut count = 0;
-    while at < text.len() {
+    for record in Records::new(text).at_line(1)? {
         let line = count + 2;
-        let entry = entry_at(text, at).at_line(line)?;
+        record.at_line(line)?;
         if count >= room {
             return Err(TextFault::Full { line });
         }
-        at = entry.next;
         count += 1;
     }
     Ok(count)
@@ -91,18 +88,12 @@ fn fill_rows(text: &[u8], rows: &mut [Row])
     requires { is_ok (read (length rows.old) text.now) ≡ true }
     ensures { rows.new ≡ written (read (length rows.old) text.now) rows.old }
 {
-    let Ok(header) = header_end(text) else {
-        unreachable()
+    let Ok(records) = Records::new(text) else {
+        unreachable!()
     };
-    let mut at = header;
-    let mut count = 0;
-    while at < text.len() {
-        let Ok(entry) = entry_at(text, at) else {
-            unreachable()
-        };
-        rows[count] = entry.row;
-        at = entry.next;
-        count += 1;
+    for (i, record) in records.enumerate() {
+        let Ok(row) = record else { unreachable!() };
+        rows[i] = row;
     }
 }
 
