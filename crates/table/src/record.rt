@@ -66,9 +66,9 @@ impl Record<'_> {
         ensures { result ≡ combined (kind_of self.now.kind.now) (size_of self.now.size.now)
             (mark_of self.now.mark.now) }
     {
-        let kind = read_kind(self.kind, 1)?;
-        let size = read_size(self.size, 2)?;
-        let mark = read_mark(self.mark, 3)?;
+        let kind = read_kind(self.kind).ok_or(FieldFault::Value(1))?;
+        let size = read_size(self.size).ok_or(FieldFault::Value(2))?;
+        let mark = read_mark(self.mark).ok_or(FieldFault::Value(3))?;
         Ok(Row { size, kind, mark })
     }
 

@@ -1,25 +1,22 @@
 // The values of a row's fields, from their bytes as written. A doubled quote stands for one quote,
 // and no word and no number has a quote, so the bytes are compared as they are.
 ghost use Rattle.std.specs.Prelude.{◌≡◌};
-ghost use Rattle.std.specs.Option.{ok_or};
 ghost use Rattle.table.specs.Values.{kind_of, number_of, within, size_of, mark_of};
 
-use crate::field::FieldFault;
-
-// The kind that the field of this number names.
-pub fn read_kind(raw: &[u8], field: u8) -> Result<u8, FieldFault>
-    ensures { result ≡ ok_or (kind_of raw.now) (FieldFault.Value field) }
+// The kind that the word names.
+pub fn read_kind(raw: &[u8]) -> Option<u8>
+    ensures { result ≡ kind_of raw.now }
 {
     match raw {
-        b"work" => Ok(0),
-        b"finish" => Ok(1),
-        b"async" => Ok(2),
-        _ => Err(FieldFault::Value(field)),
+        b"work" => Some(0),
+        b"finish" => Some(1),
+        b"async" => Some(2),
+        _ => None,
     }
 }
 
 // The number that decimal digits write, without a leading zero, if it fits.
-fn number(raw: &[u8]) -> Option<u16>
+fn read_number(raw: &[u8]) -> Option<u16>
     ensures { result ≡ within 0 65535 (number_of raw.now) }
 {
     if let [] | [b'0', _, ..] = raw {
@@ -35,20 +32,14 @@ fn number(raw: &[u8]) -> Option<u16>
     Some(n)
 }
 
-// The size in the field of this number.
-pub fn read_size(raw: &[u8], field: u8) -> Result<u16, FieldFault>
-    ensures { result ≡ ok_or (size_of raw.now) (FieldFault.Value field) }
+pub fn read_size(raw: &[u8]) -> Option<u16>
+    ensures { result ≡ size_of raw.now }
 {
-    number(raw)
-        .filter(|n| (1..=1024).contains(n))
-        .ok_or(FieldFault::Value(field))
+    read_number(raw).filter(|n| (1..=1024).contains(n))
 }
 
-// The mark in the field of this number.
-pub fn read_mark(raw: &[u8], field: u8) -> Result<u8, FieldFault>
-    ensures { result ≡ ok_or (mark_of raw.now) (FieldFault.Value field) }
+pub fn read_mark(raw: &[u8]) -> Option<u8>
+    ensures { result ≡ mark_of raw.now }
 {
-    number(raw)
-        .and_then(|n| u8::try_from(n).ok())
-        .ok_or(FieldFault::Value(field))
+    read_number(raw).and_then(|n| u8::try_from(n).ok())
 }
