@@ -1,6 +1,5 @@
 mod Examples
 mod Fronts
-pub mod Laying
 mod Numbers
 mod Pieces
 mod Progress
