@@ -69,7 +69,11 @@ impl Record<'_> {
         let kind = read_kind(self.kind).ok_or(FieldFault::Value(1))?;
         let size = read_size(self.size).ok_or(FieldFault::Value(2))?;
         let mark = read_mark(self.mark).ok_or(FieldFault::Value(3))?;
-        Ok(Row { size, kind, mark })
+        Ok(Row {
+            size,
+            kind: u8::from(kind),
+            mark,
+        })
     }
 
     fn is_header(&self) -> bool

@@ -1,16 +1,20 @@
 // The values of a row's fields, from their bytes as written. A doubled quote stands for one quote,
 // and no word and no number has a quote, so the bytes are compared as they are.
 ghost use Rattle.std.specs.Prelude.{◌≡◌};
+ghost use Rattle.std.specs.Option.{option_map};
+ghost use Rattle.job.specs.Kinds.{kind_number};
 ghost use Rattle.table.specs.Values.{kind_of, number_of, within, size_of, mark_of};
 
+use job::Kind;
+
 // The kind that the word names.
-pub fn read_kind(raw: &[u8]) -> Option<u8>
-    ensures { result ≡ kind_of raw.now }
+pub fn read_kind(raw: &[u8]) -> Option<Kind>
+    ensures { option_map kind_number result ≡ kind_of raw.now }
 {
     match raw {
-        b"work" => Some(0),
-        b"finish" => Some(1),
-        b"async" => Some(2),
+        b"work" => Some(Kind::Work),
+        b"finish" => Some(Kind::Finish),
+        b"async" => Some(Kind::Async),
         _ => None,
     }
 }
