@@ -1,5 +1,5 @@
 // Whole job tables.
-ghost use Rattle.std.specs.Prelude.{◌≡◌, true, length, is_ok};
+ghost use Rattle.std.specs.Prelude.{◌≡◌, length, IsOk};
 ghost use Rattle.table.specs.Faults.{text_number, text_told};
 ghost use Rattle.table.specs.Laws.{ReadsWritings};
 ghost use Rattle.table.specs.Texts.{at_line, read, counted, written};
@@ -85,12 +85,13 @@ fn count_rows(text: &[u8], room: usize) -> Result<usize, TextFault>
 
 // Writes the rows of a text that `count_rows` has read to the end.
 fn fill_rows(text: &[u8], rows: &mut [Row])
-    requires { is_ok (read (length rows.old) text.now) ≡ true }
+    requires { IsOk (read (length rows.old) text.now) }
     ensures { rows.new ≡ written (read (length rows.old) text.now) rows.old }
 {
     let Ok(records) = Records::new(text) else {
         unreachable!()
     };
+    // by index, since a proof knows nothing of what is written through an adapter of `iter_mut`
     for (i, record) in records.enumerate() {
         let Ok(row) = record else { unreachable!() };
         rows[i] = row;
