@@ -1,7 +1,7 @@
 -- A field as far as it is read.
-use Rattle.std.proofs.Common.{◌≡◌, ℕ, ◌-◌, ◌≤◌, Bool, true, false, cond, eqb, List, [], ◌∷◌, ◌++◌, length, get_or, take, drop, Some, None, Option, sym, refl, ap, ◌∙◌, append_assoc, append-nil, arith}
+use Rattle.std.proofs.Common.{◌≡◌, ℕ, ◌-◌, ◌≤◌, cond, eqb, List, [], ◌∷◌, ◌++◌, length, get_or, take, drop, Some, None, Option, sym, refl, ap, ◌∙◌, append_assoc, append-nil, arith}
 use Rattle.std.proofs.lemmas.List.{take_rest}
-use Rattle.std.proofs.lemmas.Bool.{cond-false, and_left, ne_eqb, eq-eqb}
+use Rattle.std.proofs.lemmas.Bool.{cond-false, and_left, ne_eqb}
 use Rattle.table.specs.Fields.{End, Cut, Mode, ends, ended, longer, onward, unescaped}
 use Rattle.table.specs.Fields.Mode.{Plain, Quoted}
 
@@ -43,9 +43,6 @@ module _ {m : Mode} {bs v left : List ℕ} (so : Partway m bs v left) where
   pub partway_end : (e : End) → onward m left ≡ Some (record { value = []; end = e }) → onward m bs ≡ Some (record { value = unescaped v; end = e })
   partway_end e h = so.same ∙ ap (led v) h ∙ ap (λ l. Some (record { value = l; end = e })) (append-nil (unescaped v))
 
-  pub partway_none : onward m left ≡ None → onward m bs ≡ None
-  partway_none h = so.same ∙ ap (led v) h
-
 -- a byte that is no quote stands for itself
 plain_one : (b : ℕ) → (b ≡ 34 → ⊥) → (w : List ℕ) → unescaped (b ∷ w) ≡ b ∷ unescaped w
 plain_one b n [] = refl
@@ -60,15 +57,12 @@ first_more [] l = absurd (omega arith)
 first_more (b ∷ bs) l = ap (λ r. b ∷ r) (sym (take_rest (b ∷ bs) 1))
 
 module _ {left : List ℕ} (b : ℕ) (rest : List ℕ) (is : left ≡ b ∷ rest) where
-  plain_step : ends left ≡ None → (t : Bool) → eqb b 34 ≡ t → onward Plain (b ∷ rest) ≡ cond t None (longer b (onward Plain rest))
-  plain_step h t e = ap (λ o. ended o (cond (eqb b 34) None (longer b (onward Plain rest)))) (ap ends (sym is) ∙ h) ∙ ap (λ t. cond t None (longer b (onward Plain rest))) e
+  plain_step : ends left ≡ None → (b ≡ 34 → ⊥) → onward Plain (b ∷ rest) ≡ longer b (onward Plain rest)
+  plain_step h n = ap (λ o. ended o (cond (eqb b 34) None (longer b (onward Plain rest)))) (ap ends (sym is) ∙ h) ∙ cond-false _ _ _ (ne_eqb b 34 n)
 
   module _ {bs v : List ℕ} where
     pub plain_more : Partway Plain bs v left → ends left ≡ None → (b ≡ 34 → ⊥) → Partway Plain bs (v ++ b ∷ []) rest
-    plain_more so h n = partway_more so (b ∷ []) b rest is (plain_one b n) (plain_step h false (ne_eqb b 34 n))
-
-    pub plain_quote : Partway Plain bs v left → ends left ≡ None → b ≡ 34 → onward Plain bs ≡ None
-    plain_quote so h e = partway_none so (ap (onward Plain) is ∙ plain_step h true (eq-eqb b 34 e))
+    plain_more so h n = partway_more so (b ∷ []) b rest is (plain_one b n) (plain_step h n)
 
     pub quoted_more : Partway Quoted bs v left → (b ≡ 34 → ⊥) → Partway Quoted bs (v ++ b ∷ []) rest
     quoted_more so n = partway_more so (b ∷ []) b rest is (plain_one b n) (cond-false _ _ _ (ne_eqb b 34 n))

@@ -57,15 +57,11 @@ pub from_row : (room line : ℕ) (bs : List ℕ) (e : Front) → 0 < length bs �
 from_row room line [] e h p = absurd (omega arith)
 from_row room line (b ∷ bs) e h p = ap (λ r. go_on line r (read_from room (line + 1))) p
 
-pub too_long : (room : ℕ) (t : List ℕ) → 65536 < length t → read room t ≡ Err TooLong
+too_long : (room : ℕ) (t : List ℕ) → 65536 < length t → read room t ≡ Err TooLong
 too_long room t h = cond-true _ _ _ (lt-ltb 65536 (length t) h)
 
-module _ (room : ℕ) (t : List ℕ) (short : length t ≤ 65536) where
-  past_header : read room t ≡ after_header room (header t)
-  past_header = cond-false _ _ _ (le-ltb 65536 (length t) short)
-
-  pub bad_header : (f : RecordFault) → Err f ≡ header t → read room t ≡ Err (on_line 1 f)
-  bad_header f h = past_header ∙ ap (after_header room) (sym h)
+past_header : (room : ℕ) (t : List ℕ) → length t ≤ 65536 → read room t ≡ after_header room (header t)
+past_header room t short = cond-false _ _ _ (le-ltb 65536 (length t) short)
 
 -- rows before others
 abbrev prepend_all : List Row → Result (List Row) TextFault → Result (List Row) TextFault
