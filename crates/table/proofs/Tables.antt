@@ -91,16 +91,16 @@ sofar_start room t left short h = record {
   all = let same : room ≡ room - 0 = omega arith in past_header room t short ∙ ap (after_header room) (sym h) ∙ ap (λ r. read_from r 2 left) same;
 }
 
-module _ (room : ℕ) (t left : List ℕ) (n : ℕ) (xs : List Row) (so : Sofar room t left n xs) where
-  pub sofar_end : (next : List ℕ) → (None, next) ≡ next_record left → read room t ≡ Ok xs
-  sofar_end next none = so.all ∙ ap (prepend_all xs) (from_none (room - n) (n + 2) left (none_left left next none)) ∙ prepend_none xs
+module _ {room : ℕ} {t left : List ℕ} {n : ℕ} {xs : List Row} (so : Sofar room t left n xs) where
+  pub sofar_end : {next : List ℕ} → (None, next) ≡ next_record left → read room t ≡ Ok xs
+  sofar_end {next} none = so.all ∙ ap (prepend_all xs) (from_none (room - n) (n + 2) left (none_left left next none)) ∙ prepend_none xs
 
   -- one more record gives r, and the text goes on as next
-  module _ (next : List ℕ) (r : Result Row RecordFault) (given : (Some r, next) ≡ next_record left) where
+  module _ {next : List ℕ} {r : Result Row RecordFault} (given : (Some r, next) ≡ next_record left) where
     pub sofar_bad : (f : RecordFault) → r ≡ Err f → read room t ≡ Err (on_line (n + 2) f)
     sofar_bad f bad = let p = fault_left left next f (ap (λ r. (Some r, next)) (sym bad) ∙ given) in so.all ∙ ap (prepend_all xs) (from_bad (room - n) (n + 2) left f p.0 p.1) ∙ prepend_fault xs _
 
-    module _ (row : Row) (ok : r ≡ Ok row) where
+    module _ {row : Row} (ok : r ≡ Ok row) where
       front_is : (0 < length left) × (front left ≡ Ok (record { row = row; rest = next }))
       front_is = row_left left next row (ap (λ r. (Some r, next)) (sym ok) ∙ given)
 
@@ -138,8 +138,8 @@ module _ (room : ℕ) (t : List ℕ) (ok : is_ok (read room t) ≡ true) where
   pub read_short : length t ≤ 65536
   read_short = ⊎_elim (λ h. absurd (no_fault TooLong (too_long room t h))) (λ h. h) (cases_lt 65536 (length t))
 
-  pub room-left : (left : List ℕ) (n : ℕ) (xs : List Row) (so : Sofar room t left n xs) (next : List ℕ) (r : Result Row RecordFault) (given : (Some r, next) ≡ next_record left) (row : Row) → r ≡ Ok row → n < room
-  room-left left n xs so next r given row is = ⊎_elim (λ l. l) (λ over. absurd (no_fault _ (sofar_full room t left n xs so next r given row is over))) (cases_lt n room)
+  pub room-left : {left next : List ℕ} {n : ℕ} {xs : List Row} {r : Result Row RecordFault} {row : Row} → Sofar room t left n xs → (Some r, next) ≡ next_record left → r ≡ Ok row → n < room
+  room-left {n = n} so given ok = ⊎_elim (λ l. l) (λ over. absurd (no_fault _ (sofar_full so given ok over))) (cases_lt n room)
 
 -- the row table, with the rows of the text so far
 pub filled_more : (rows old : List Row) (n i m : ℕ) (row : Row) → i ≡ n → m ≡ n + 1 → n < length rows → drop n rows ≡ drop n old → (take m (set rows i row) ≡ take n rows ++ row ∷ []) × (drop m (set rows i row) ≡ drop m old)

@@ -62,6 +62,7 @@ fn read_record(text: &[u8]) -> Result<Record<'_>, RecordFault>
 }
 
 impl Record<'_> {
+    // The row that the fields mean.
     fn row(&self) -> Result<Row, RecordFault>
         ensures { result ≡ combined (kind_of self.now.kind.now) (size_of self.now.size.now)
             (mark_of self.now.mark.now) }
@@ -76,6 +77,7 @@ impl Record<'_> {
         })
     }
 
+    // Whether the fields are the header's words.
     fn is_header(&self) -> bool
         ensures { result ≡ is_header self.now.kind.now self.now.size.now self.now.mark.now }
     {

@@ -17,27 +17,25 @@ returns-in_err-at_line c =
     let p = err_from_is_err_and c.from_residual-in_err-at_line.result c.from_residual-in_err-at_line.ensures.1 in
     let q = was_err _ c.in-Some.record c.in_err-at_line.field-0.0 c.in_err-at_line.ensures in
     let so = c.loop-record.invariant.3 in
-    p.1 ∙ ap Err (p.2 ∙ q.2) ∙ ap counted (sym (sofar_bad c.args.room c.args.text.now (text_left c.loop-record.record-iterator) c.loop-record.count so.0 so.1 (text_left c.next.new.self) c.in-Some.record c.in-Some.ensures.steps q.0 q.1))
+    p.1 ∙ ap Err (p.2 ∙ q.2) ∙ ap counted (sym (sofar_bad so.1 c.in-Some.ensures.steps q.0 q.1))
 
 pub returns-then-count-room : goal.returns-then-count-room
 returns-then-count-room c =
     let row = was_ok _ c.in-Some.record c.in_ok-at_line.field-0 c.in_ok-at_line.ensures in
     let so = c.loop-record.invariant.3 in
-    ap counted (sym (sofar_full c.args.room c.args.text.now (text_left c.loop-record.record-iterator) c.loop-record.count so.0 so.1 (text_left c.next.new.self) c.in-Some.record c.in-Some.ensures.steps _ row c.if-count-room.true))
+    ap counted (sym (sofar_full so.1 c.in-Some.ensures.steps row c.if-count-room.true))
 
 pub loop-record-preserved : goal.loop-record-preserved
 loop-record-preserved c =
-    let t = c.args.text.now in
-    let n = c.loop-record.count in
     let row = was_ok _ c.in-Some.record c.in_ok-at_line.field-0 c.in_ok-at_line.ensures in
     let so = c.loop-record.invariant.3 in (
       tt,
       tt,
-      omega (arith, c.loop-record.invariant.2, less_left c.args.room t (text_left c.loop-record.record-iterator) n so.0 so.1 (text_left c.next.new.self) c.in-Some.record c.in-Some.ensures.steps _ row),
-      (so.0 ++ c.in_ok-at_line.field-0 ∷ [], sofar_more c.args.room t (text_left c.loop-record.record-iterator) n so.0 so.1 (text_left c.next.new.self) c.in-Some.record c.in-Some.ensures.steps _ row c.if-count-room.false),
+      omega (arith, c.loop-record.invariant.2, less_left so.1 c.in-Some.ensures.steps row),
+      (so.0 ++ c.in_ok-at_line.field-0 ∷ [], sofar_more so.1 c.in-Some.ensures.steps row c.if-count-room.false),
     )
 
 pub returns : goal.returns
 returns c =
     let so = c.loop-record.invariant.3 in
-    sym (ap counted (sofar_end c.args.room c.args.text.now (text_left c.loop-record.record-iterator) c.loop-record.count so.0 so.1 _ c.in-None.ensures.steps) ∙ ap Ok so.1.len)
+    sym (ap counted (sofar_end so.1 c.in-None.ensures.steps) ∙ ap Ok so.1.len)

@@ -20,15 +20,10 @@ loop-i-init c =
 
 pub unreachable-requires-in_default-record : goal.unreachable-requires-in_default-record
 unreachable-requires-in_default-record c =
-    let t = c.args.text.now in
-    let room = length c.args.rows.now in
-    let n = enumerate_count c.loop-i.i-iterator in
-    no_fault room t c.requires _ (sofar_bad room t (text_left (enumerate_source c.loop-i.i-iterator)) n (take n c.loop-i.rows) c.loop-i.invariant.2 (text_left (enumerate_source c.next.new.self)) c.in-Some.record c.in-Some.ensures.steps.0 _ c.in_default-record.is)
+    no_fault (length c.args.rows.now) c.args.text.now c.requires _ (sofar_bad c.loop-i.invariant.2 c.in-Some.ensures.steps.0 _ c.in_default-record.is)
 
 has_room : (c : In-Ok-record) → enumerate_count c.loop-i.i-iterator < length c.args.rows.now
-has_room c =
-    let n = enumerate_count c.loop-i.i-iterator in
-    room-left (length c.args.rows.now) c.args.text.now c.requires (text_left (enumerate_source c.loop-i.i-iterator)) n (take n c.loop-i.rows) c.loop-i.invariant.2 (text_left (enumerate_source c.next.new.self)) c.in-Some.record c.in-Some.ensures.steps.0 c.in-Ok-record.row c.in-Ok-record.is
+has_room c = room-left (length c.args.rows.now) c.args.text.now c.requires c.loop-i.invariant.2 c.in-Some.ensures.steps.0 c.in-Ok-record.is
 
 pub bounds-rows-i : goal.bounds-rows-i
 bounds-rows-i c = omega (arith, has_room (goal.at.bounds-rows-i c).In-Ok-record, c.in-Some.ensures.steps.1)
@@ -45,7 +40,7 @@ loop-i-preserved c =
     let room = has_room (goal.at.loop-i-preserved c).In-Ok-record in
     let step = c.in-Some.ensures.steps in
     let filled = filled_more rows old n c.in-Some.i m row step.1 step.2 (omega (arith, room)) c.loop-i.invariant.3 in
-    let more = sofar_more (length old) t (text_left (enumerate_source c.loop-i.i-iterator)) n (take n rows) c.loop-i.invariant.2 next c.in-Some.record step.0 row c.in-Ok-record.is room in
+    let more = sofar_more c.loop-i.invariant.2 step.0 c.in-Ok-record.is room in
     (c.in-Some.ensures.goes.keeps, tt, subst (Sofar (length old) t next m) (sym filled.0) (subst (λ k. Sofar (length old) t next k (take n rows ++ row ∷ [])) (sym step.2) more), filled.1)
 
 pub returns : goal.returns
@@ -53,4 +48,4 @@ returns c =
     let rows = c.loop-i.rows in
     let n = enumerate_count c.loop-i.i-iterator in
     let so = c.loop-i.invariant.2 in
-    filled_all rows c.args.rows.now (take n rows) n _ refl so.len c.loop-i.invariant.3 (sofar_end (length c.args.rows.now) c.args.text.now (text_left (enumerate_source c.loop-i.i-iterator)) n (take n rows) so _ c.in-None.ensures.steps.0)
+    filled_all rows c.args.rows.now (take n rows) n _ refl so.len c.loop-i.invariant.3 (sofar_end so c.in-None.ensures.steps.0)
