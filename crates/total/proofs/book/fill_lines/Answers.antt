@@ -6,7 +6,7 @@ pub loop-r-init : goal.loop-r-init
 loop-r-init g c =
     subst
     (Sofar g.K.Total.meaning g.K.Total.none g.K.Total.joined g.K.Total.sealed (g.S.JobSource.rows c.args.source.now) c.args.book.now c.args.book.now)
-    (sym c.requires.counted.0)
+    (sym c.len-r.ensures)
     (sofar_none g.K.Total.meaning g.K.Total.none g.K.Total.joined g.K.Total.sealed (g.S.JobSource.rows c.args.source.now) c.args.book.now)
 
 pub loop-r-preserved-in-Finish-1 : goal.loop-r-preserved-in-Finish-1
