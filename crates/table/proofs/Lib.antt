@@ -4,6 +4,7 @@ mod Numbers
 mod Pieces
 mod Progress
 mod Quotes
+mod Results
 mod RoundTrip
 mod Scans
 mod Shapes

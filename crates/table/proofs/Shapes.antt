@@ -12,13 +12,10 @@ use Rattle.table.specs.declared.record.RecordFault.TheVariants.{Shape}
 use Rattle.table.specs.Fields.{Cut, field}
 use Rattle.table.specs.Records.{Three, three, after_comma, after_last, with_kind, with_size, with_mark}
 use Rattle.table.specs.Readings.{ok_map, as_cut, following, of_field, as_three}
+use Rattle.table.proofs.Results.{ok_or-ok, ok_or-err}
 
--- what goes on from a field, K, at each answer of `read_field` and of `next_field`
+-- what goes on from a field, K, at each answer of `next_field`
 module _ (K : Option Cut → Option Three) where
-  at_first : (c : Cut) (o : Option Cut) → Ok c ≡ ok_or o Quotes → K o ≡ K (Some c)
-  at_first c None h = cc
-  at_first c (Some d) h = cc
-
   at_comma : (c : Cut) (o : Option Cut) → Ok (Some c) ≡ ok_map Some (ok_or o Quotes) → K o ≡ K (Some c)
   at_comma c None h = cc
   at_comma c (Some d) h = cc
@@ -29,10 +26,6 @@ module _ (K : Option Cut → Option Three) where
   at_next TextEnd bs c h = cc
 
   module _ (nothing : K None ≡ None) (e : FieldFault) where
-    fault_first : (o : Option Cut) → Err e ≡ ok_or o Quotes → (K o ≡ None) × (e ≡ Quotes)
-    fault_first None h = (nothing, cc)
-    fault_first (Some d) h = cc
-
     fault_comma : (o : Option Cut) → Err e ≡ ok_map Some (ok_or o Quotes) → (K o ≡ None) × (e ≡ Quotes)
     fault_comma None h = (nothing, cc)
     fault_comma (Some d) h = cc
@@ -52,8 +45,8 @@ none_next LineEnd bs more h = refl
 none_next TextEnd bs more h = refl
 
 -- a fault of a field's quotes is one of the record's shape
-pub refused : (r : Result Record RecordFault) (f : RecordFault) (e : FieldFault) (o : Option Three) → r ≡ Err f → f ≡ of_field e → (o ≡ None) × (e ≡ Quotes) → ok_map as_three r ≡ ok_or o Shape
-refused r f e o p q h = ap (ok_map as_three) p ∙ ap Err (q ∙ ap of_field h.1) ∙ ap (λ o. ok_or o Shape) (sym h.0)
+pub refused : (r : Result Record RecordFault) (e : FieldFault) (o : Option Three) → r ≡ Err (of_field e) → (o ≡ None) × (e ≡ Quotes) → ok_map as_three r ≡ ok_or o Shape
+refused r e o is h = ap (ok_map as_three) (is ∙ ap (λ e. Err (of_field e)) h.1) ∙ ap (λ o. ok_or o Shape) (sym h.0)
 
 no_record : (o : Option Three) → o ≡ None → Err Shape ≡ ok_or o Shape
 no_record o e = ap (λ o. ok_or o Shape) (sym e)
@@ -68,11 +61,11 @@ unended s all e = ap (λ s. after_last s all) e
 -- the record at the front of bs, as far as its fields are known
 module _ (bs : List ℕ) where
   pub fault-kind : (e : FieldFault) → Err e ≡ ok_or (field bs) Quotes → (three bs ≡ None) × (e ≡ Quotes)
-  fault-kind e h = fault_first with_kind refl e (field bs) h
+  fault-kind e h = let p = ok_or-err Quotes (field bs) h in (ap with_kind p.0, p.1)
 
   module _ (k : Field) (first : Ok (as_cut k) ≡ ok_or (field bs) Quotes) where
     with_first : three bs ≡ with_kind (Some (as_cut k))
-    with_first = at_first with_kind (as_cut k) (field bs) first
+    with_first = ap with_kind (ok_or-ok Quotes (field bs) first)
 
     pub fault-size : (e : FieldFault) → Err e ≡ following k.end.stop k.end.rest.now → (three bs ≡ None) × (e ≡ Quotes)
     fault-size e h = let p = fault_next (with_size (as_cut k)) refl e k.end.stop k.end.rest.now h in (with_first ∙ p.0, p.1)

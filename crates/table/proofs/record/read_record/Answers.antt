@@ -1,24 +1,21 @@
-use Rattle.std.proofs.lemmas.Result.{err_from_is_err_and}
 use Rattle.table.proofs.Shapes.{refused, fault-kind, fault-size, fault-mark, no_size, no_mark, no_end, whole_record}
+use Rattle.table.proofs.Results.{passed_up}
 use Rattle.table.proofs.record.read_record.Goals as goal
 
 pub returns-in_err-kind : goal.returns-in_err-kind
 returns-in_err-kind c =
-    let p = err_from_is_err_and c.from_residual.result c.from_residual.ensures.1 in
-    refused _ p.0 _ _ p.1 p.2 (fault-kind c.args.text.now _ c.in_err-kind.ensures)
+    refused _ _ _ (passed_up _ c.from_residual.ensures.1) (fault-kind c.args.text.now _ c.in_err-kind.ensures)
 
 pub returns-in_err-size : goal.returns-in_err-size
 returns-in_err-size c =
-    let p = err_from_is_err_and c.from_residual-in_err-size.result c.from_residual-in_err-size.ensures.1 in
-    refused _ p.0 _ _ p.1 p.2 (fault-size c.args.text.now c.in_ok-kind.kind c.in_ok-kind.ensures _ c.in_err-size.ensures)
+    refused _ _ _ (passed_up _ c.from_residual-in_err-size.ensures.1) (fault-size c.args.text.now c.in_ok-kind.kind c.in_ok-kind.ensures _ c.in_err-size.ensures)
 
 pub returns-in_default : goal.returns-in_default
 returns-in_default c = no_size c.args.text.now c.in_ok-kind.kind c.in_ok-kind.ensures _ c.in_ok-size.ensures c.in_default.is
 
 pub returns-in_err-mark : goal.returns-in_err-mark
 returns-in_err-mark c =
-    let p = err_from_is_err_and c.from_residual-in_err-mark.result c.from_residual-in_err-mark.ensures.1 in
-    refused _ p.0 _ _ p.1 p.2 (fault-mark c.args.text.now c.in_ok-kind.kind c.in_ok-kind.ensures _ c.in_ok-size.ensures c.in-Some.size c.in-Some.is _ c.in_err-mark.ensures)
+    refused _ _ _ (passed_up _ c.from_residual-in_err-mark.ensures.1) (fault-mark c.args.text.now c.in_ok-kind.kind c.in_ok-kind.ensures _ c.in_ok-size.ensures c.in-Some.size c.in-Some.is _ c.in_err-mark.ensures)
 
 pub returns-in_default-2 : goal.returns-in_default-2
 returns-in_default-2 c =

@@ -1,9 +1,9 @@
 use Rattle.std.proofs.Common.{[], ◌∷◌, ◌++◌, Ok, Err, sym, ap, ◌∙◌, arith}
-use Rattle.std.proofs.lemmas.Result.{err_from_is_err_and}
 use Rattle.table.specs.Readings.{ok_map, text_left}
 use Rattle.table.specs.Texts.{counted}
 use Rattle.table.proofs.Progress.{header_shorter}
 use Rattle.table.proofs.Tables.{less_left, sofar_start, sofar_end, sofar_bad, sofar_full, sofar_more, was_ok, was_err}
+use Rattle.table.proofs.Results.{passed_up}
 use Rattle.table.proofs.text.count_rows.Goals as goal
 
 pub loop-record-init : goal.loop-record-init
@@ -14,10 +14,9 @@ loop-record-init c =
 
 pub returns-in_err-at_line : goal.returns-in_err-at_line
 returns-in_err-at_line c =
-    let p = err_from_is_err_and c.from_residual-in_err-at_line.result c.from_residual-in_err-at_line.ensures.1 in
     let q = was_err _ c.in-Some.record c.in_err-at_line.field-0.0 c.in_err-at_line.ensures in
     let so = c.loop-record.invariant.3 in
-    p.1 ∙ ap Err (p.2 ∙ q.2) ∙ ap counted (sym (sofar_bad so.1 c.in-Some.ensures.steps q.0 q.1))
+    passed_up _ c.from_residual-in_err-at_line.ensures.1 ∙ ap Err q.2 ∙ ap counted (sym (sofar_bad so.1 c.in-Some.ensures.steps q.0 q.1))
 
 pub returns-then-count-room : goal.returns-then-count-room
 returns-then-count-room c =
