@@ -45,8 +45,8 @@ none_next LineEnd bs more h = refl
 none_next TextEnd bs more h = refl
 
 -- a fault of a field's quotes is one of the record's shape
-pub refused : (r : Result Record RecordFault) (e : FieldFault) (o : Option Three) → r ≡ Err (of_field e) → (o ≡ None) × (e ≡ Quotes) → ok_map as_three r ≡ ok_or o Shape
-refused r e o is h = ap (ok_map as_three) (is ∙ ap (λ e. Err (of_field e)) h.1) ∙ ap (λ o. ok_or o Shape) (sym h.0)
+pub refused : {r : Result Record RecordFault} {e : FieldFault} {o : Option Three} → r ≡ Err (of_field e) → (o ≡ None) × (e ≡ Quotes) → ok_map as_three r ≡ ok_or o Shape
+refused is h = ap (ok_map as_three) (is ∙ ap (λ e. Err (of_field e)) h.1) ∙ ap (λ o. ok_or o Shape) (sym h.0)
 
 no_record : (o : Option Three) → o ≡ None → Err Shape ≡ ok_or o Shape
 no_record o e = ap (λ o. ok_or o Shape) (sym e)
@@ -60,32 +60,32 @@ unended s all e = ap (λ s. after_last s all) e
 
 -- the record at the front of bs, as far as its fields are known
 module _ (bs : List ℕ) where
-  pub fault-kind : (e : FieldFault) → Err e ≡ ok_or (field bs) Quotes → (three bs ≡ None) × (e ≡ Quotes)
-  fault-kind e h = let p = ok_or-err Quotes (field bs) h in (ap with_kind p.0, p.1)
+  pub fault-kind : {e : FieldFault} → Err e ≡ ok_or (field bs) Quotes → (three bs ≡ None) × (e ≡ Quotes)
+  fault-kind h = let p = ok_or-err Quotes (field bs) h in (ap with_kind p.0, p.1)
 
   module _ (k : Field) (first : Ok (as_cut k) ≡ ok_or (field bs) Quotes) where
     with_first : three bs ≡ with_kind (Some (as_cut k))
     with_first = ap with_kind (ok_or-ok Quotes (field bs) first)
 
-    pub fault-size : (e : FieldFault) → Err e ≡ following k.end.stop k.end.rest.now → (three bs ≡ None) × (e ≡ Quotes)
-    fault-size e h = let p = fault_next (with_size (as_cut k)) refl e k.end.stop k.end.rest.now h in (with_first ∙ p.0, p.1)
+    pub fault-size : {e : FieldFault} → Err e ≡ following k.end.stop k.end.rest.now → (three bs ≡ None) × (e ≡ Quotes)
+    fault-size {e} h = let p = fault_next (with_size (as_cut k)) refl e k.end.stop k.end.rest.now h in (with_first ∙ p.0, p.1)
 
-    module _ (o : Option Field) (second : Ok (option_map as_cut o) ≡ following k.end.stop k.end.rest.now) where
+    module _ {o : Option Field} (second : Ok (option_map as_cut o) ≡ following k.end.stop k.end.rest.now) where
       pub no_size : o ≡ None → Err Shape ≡ ok_or (three bs) Shape
       no_size is = no_record (three bs) (with_first ∙ none_next k.end.stop k.end.rest.now _ (ap (λ o. Ok (option_map as_cut o)) (sym is) ∙ second))
 
-      module _ (s : Field) (some : o ≡ Some s) where
+      module _ {s : Field} (some : o ≡ Some s) where
         with_second : three bs ≡ with_size (as_cut k) (Some (as_cut s))
         with_second = with_first ∙ at_next (with_size (as_cut k)) k.end.stop k.end.rest.now (as_cut s) (ap (λ o. Ok (option_map as_cut o)) (sym some) ∙ second)
 
-        pub fault-mark : (e : FieldFault) → Err e ≡ following s.end.stop s.end.rest.now → (three bs ≡ None) × (e ≡ Quotes)
-        fault-mark e h = let p = fault_next (with_mark (as_cut k) (as_cut s)) refl e s.end.stop s.end.rest.now h in (with_second ∙ p.0, p.1)
+        pub fault-mark : {e : FieldFault} → Err e ≡ following s.end.stop s.end.rest.now → (three bs ≡ None) × (e ≡ Quotes)
+        fault-mark {e} h = let p = fault_next (with_mark (as_cut k) (as_cut s)) refl e s.end.stop s.end.rest.now h in (with_second ∙ p.0, p.1)
 
-        module _ (p : Option Field) (third : Ok (option_map as_cut p) ≡ following s.end.stop s.end.rest.now) where
+        module _ {p : Option Field} (third : Ok (option_map as_cut p) ≡ following s.end.stop s.end.rest.now) where
           pub no_mark : p ≡ None → Err Shape ≡ ok_or (three bs) Shape
           no_mark is = no_record (three bs) (with_second ∙ none_next s.end.stop s.end.rest.now _ (ap (λ o. Ok (option_map as_cut o)) (sym is) ∙ third))
 
-          module _ (m : Field) (last : p ≡ Some m) where
+          module _ {m : Field} (last : p ≡ Some m) where
             with_third : three bs ≡ with_mark (as_cut k) (as_cut s) (Some (as_cut m))
             with_third = with_second ∙ at_next (with_mark (as_cut k) (as_cut s)) s.end.stop s.end.rest.now (as_cut m) (ap (λ o. Ok (option_map as_cut o)) (sym last) ∙ third)
 
