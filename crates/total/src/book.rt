@@ -49,6 +49,7 @@ impl From<JobRefusal> for BookRefusal {
 // Fills in a book whose work lines hold the values of a job: each finish line gets its serial
 // total and each async line nothing. Work lines, lines past the job and, where the call is
 // refused, all lines stay the very same values. No other totals follow the rule of the serial ones.
+#[tactic(auto, using(crate::proofs::SerialLaws::serial_rule))]
 pub fn fill_serial_totals<S: JobSource, K: Total + Drop>(
     source: &S,
     book: &mut [K],
