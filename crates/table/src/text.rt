@@ -101,6 +101,7 @@ fn fill_rows(text: &[u8], rows: &mut [Row])
 // Fills the table from its start with the rows of the text, and answers how many there are. What
 // stands past them stays, and on a refusal all of it stays. Each writing of a table that the format
 // allows is read as the rows that it writes.
+#[tactic(auto, using(crate::proofs::RoundTrip::reads_writings))]
 pub fn read_rows(text: &[u8], rows: &mut [Row]) -> Result<usize, TextFault>
     ensures result { result ≡ counted (read (length rows.old) text.now) }
     ensures after { rows.new ≡ written (read (length rows.old) text.now) rows.old }
