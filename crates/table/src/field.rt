@@ -105,7 +105,8 @@ pub fn read_field(text: &[u8]) -> Result<Field<'_>, FieldFault>
 impl<'a> End<'a> {
     // The next field of the record, or none where the record has ended.
     pub fn next_field(self) -> Result<Option<Field<'a>>, FieldFault>
-        ensures { ok_map (option_map as_cut) result ≡ following self.entry.stop self.entry.rest.now }
+        ensures { ok_map (option_map as_cut) result
+            ≡ following self.entry.stop self.entry.rest.now }
     {
         let Stop::Comma = self.stop else {
             return Ok(None);

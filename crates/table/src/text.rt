@@ -71,6 +71,7 @@ fn count_rows(text: &[u8], room: usize) -> Result<usize, TextFault>
     if text.len() > MOST_BYTES {
         return Err(TextFault::TooLong);
     }
+    // the count is the answer, so an enumeration would be no plainer
     let mut count = 0;
     for record in Records::new(text).at_line(1)? {
         let line = count + 2;
