@@ -19,7 +19,8 @@ impl Tables {
         Answer {
             action,
             row,
-            outcome: (closed, self.now_has(w)),
+            closed,
+            task: self.now_has(w),
         }
     }
 
