@@ -1,6 +1,6 @@
 // The tables of a board, in fixed memory, and their cells.
 ghost use Rattle.std.specs.Prelude.{◌≡◌, ◌<◌, length};
-ghost use Rattle.rules.specs.Boards.{worker, task, live, to_state, with_worker, with_task, with_live};
+ghost use Rattle.rules.specs.Boards.{no_board, worker, task, live, to_state, with_worker, with_task, with_live};
 
 use crate::worker::Worker;
 use arrayvec::ArrayVec;
@@ -55,7 +55,31 @@ impl Model for Tables {
     ghost invariant = { λ t. length t.progress.items ≡ length (laid t.job) };
 }
 
+impl Default for Tables {
+    ghost use Rattle.std.specs.Prelude.{◌≡◌};
+    ghost use Rattle.rules.specs.Boards.{no_board};
+
+    ghost is_default = { λ t. t ≡ no_board };
+
+    fn default() -> Tables {
+        Tables::new()
+    }
+}
+
 impl Tables {
+    // A board never loaded.
+    pub fn new() -> Tables
+        ensures { result ≡ no_board }
+    {
+        Tables {
+            job: Layout::new(),
+            progress: ArrayVec::new(),
+            workers: ArrayVec::new(),
+            figures: Figures::default(),
+            finished: false,
+        }
+    }
+
     // What worker w does.
     pub fn state(&self, w: usize) -> WorkerState
         requires { w < length self.now.workers }
