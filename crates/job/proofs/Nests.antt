@@ -1,6 +1,6 @@
 -- What a lawful job is like: enclosing rows nest. Assumes nothing.
-use Rattle.std.proofs.Common.{◌≡◌, ℕ, zero, suc, ◌<◌, ◌≤◌, true, not, ◌||◌, eqb, leb, ◌⊎◌, List, length, Some, None, Ok, Err, Option, Result, sym, refl, ◌∙◌, subst, inl, inr, ⊎_elim, arith}
-use Rattle.std.proofs.lemmas.Bool.{leb-true, and_parts, and_from, le-leb, cond-true, cond-false, cases_eq, cases_lt, cases_Bool, not-false, not-true}
+use Rattle.std.proofs.Common.{◌≡◌, ℕ, zero, suc, ◌<◌, ◌≤◌, true, false, not, ◌||◌, eqb, leb, ◌⊎◌, List, length, Some, None, Ok, Err, Option, Result, sym, refl, ap, ◌∙◌, subst, inl, inr, ⊎_elim, arith}
+use Rattle.std.proofs.lemmas.Bool.{leb-true, leb-false, and_parts, and_cases, and_from, le-leb, cond_both, cond-true, cond-false, cases_eq, cases_lt, cases_Bool, not-false, not-true}
 use Rattle.job.specs.declared.row.Row.{Row}
 use Rattle.job.specs.declared.refusal.JobRefusal.{JobRefusal}
 use Rattle.job.specs.declared.refusal.JobRefusal.TheVariants.{RowCount}
@@ -57,6 +57,16 @@ lawful_nests rows law p q r l less in_p in-q =
     let within : q < length rows = omega arith in
     (encloses_from rows p q less reach, ends-in_order rows law.each q q p (omega arith) within less reach)
 
+countable_from : (n : ℕ) → 1 ≤ n → n ≤ most_rows → countable n ≡ true
+countable_from n some few = and_from (leb 1 n) (leb n most_rows) (le-leb 1 n some) (le-leb n most_rows few)
+
+counted : (n : ℕ) → countable n ≡ true → (1 ≤ n) × (n ≤ most_rows)
+counted n y = let both = and_parts (leb 1 n) (leb n most_rows) y in (leb-true 1 n both.0, leb-true n most_rows both.1)
+
+uncounted : (n : ℕ) → countable n ≡ false → (n < 1) ⊎ (most_rows < n)
+uncounted n y =
+    ⊎_elim (λ a. inl (leb-false 1 n a)) (λ b. inr (leb-false n most_rows b)) (and_cases (leb 1 n) (leb n most_rows) y)
+
 pub counted_is : (n m : ℕ) → Ok m ≡ row_count n → (m ≡ n) × (1 ≤ n) × (n ≤ most_rows)
 counted_is n m e =
     ⊎_elim
@@ -79,25 +89,26 @@ module _ (rows : List Row) where
   lowest_none some few e =
       record { some = some; few = few; each = λ q l. not-false (lawful_row rows q) (first_is_none (λ k. not (lawful_row rows k)) (length rows) e q l) }
 
-  module _ (some : 1 ≤ length rows) (few : length rows ≤ most_rows) where
-    judged_by : (o : Option ℕ) → lowest_unlawful rows ≡ o → Judged rows (verdict o)
-    judged_by None e = lowest_none some few e
-    judged_by (Some r) e = lowest_is r e
+  judged_by : 1 ≤ length rows → length rows ≤ most_rows → (o : Option ℕ) → lowest_unlawful rows ≡ o → Judged rows (verdict o)
+  judged_by some few None e = lowest_none some few e
+  judged_by some few (Some r) e = lowest_is r e
 
-    pub judged : Judged rows (verdict (lowest_unlawful rows))
-    judged = judged_by (lowest_unlawful rows) refl
+  -- what the check answers is right
+  pub judged : Judged rows (checked rows)
+  judged =
+      cond_both (countable (length rows)) _ _ (Judged rows)
+      (λ y. let n = counted (length rows) y in judged_by n.0 n.1 (lowest_unlawful rows) refl)
+      (λ n. uncounted (length rows) n)
 
-    granted_by : (o : Option ℕ) → lowest_unlawful rows ≡ o → verdict o ≡ Ok tt → Lawful rows
-    granted_by None e y = lowest_none some few e
-    granted_by (Some r) e y = let z : ◌≡◌ {A = ℕ} 0 1 = cc in absurd (omega arith)
+  granted_by : (r : Result (Unit {0}) JobRefusal) → Judged rows r → Ok tt ≡ r → Lawful rows
+  granted_by (Ok u) j e = j
+  granted_by (Err f) j e = let z : ◌≡◌ {A = ℕ} 0 1 = cc in absurd (omega arith)
 
-    pub granted_nests : verdict (lowest_unlawful rows) ≡ Ok tt → Nests rows
-    granted_nests y = lawful_nests rows (granted_by (lowest_unlawful rows) refl y)
+  pub granted : Ok tt ≡ checked rows → Lawful rows
+  granted e = granted_by (checked rows) judged e
 
-    pub judged_is : verdict (lowest_unlawful rows) ≡ checked rows
-    judged_is =
-        sym (cond-true (countable (length rows)) _ _ (and_from (leb 1 (length rows)) (leb (length rows) most_rows) (le-leb 1 (length rows) some) (le-leb (length rows) most_rows few)))
-
-pub verdict_none : (o : Option ℕ) → Ok tt ≡ verdict o → o ≡ None
-verdict_none None e = refl
-verdict_none (Some r) e = let z : ◌≡◌ {A = ℕ} 0 1 = cc in absurd (omega arith)
+  -- the answer by the lowest unlawful row of a job of as many rows as there may be
+  pub verdict_is : (m : ℕ) → Ok m ≡ row_count (length rows) → (o : Option ℕ) → o ≡ lowest_unlawful rows → verdict o ≡ checked rows
+  verdict_is m e o is =
+      let n = counted_is (length rows) m e in
+      ap verdict is ∙ sym (cond-true (countable (length rows)) _ _ (countable_from (length rows) n.1 n.2))

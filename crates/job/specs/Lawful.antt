@@ -8,10 +8,13 @@
 --     lowest_unlawful rows       the lowest unlawful row
 --     Lawful rows                from 1 to 1,024 rows, all of them lawful
 --     row_count n                a number of rows, refused where it is 0 or above 1,024
+--     verdict lowest             what is answered of the lowest unlawful row, or of none
+--     judgement answer           an answer without what it brings where the job is lawful
 --     checked rows               what the check answers
 --     Judged rows r              what each answer of the check says of the job
+--     NearestRows rows table    a lawful job, and a table of the nearest row that encloses each
 --     Nests rows                 rows that enclose the same row lie one in the other
-use Rattle.std.specs.Prelude.{◌≡◌, ℕ, zero, suc, ◌<◌, ◌≤◌, Bool, true, false, cond, not, ◌&&◌, ◌||◌, ◌⊎◌, List, length, Some, None, Ok, Err, Option, Result, ◌==◌, nat_le}
+use Rattle.std.specs.Prelude.{◌≡◌, ℕ, zero, suc, ◌<◌, ◌≤◌, Bool, true, false, cond, not, ◌&&◌, ◌||◌, ◌⊎◌, List, length, Some, None, Ok, Err, Option, Result, ◌==◌, nat_le, slice_index}
 use Rattle.job.specs.declared.row.Row.{Row}
 use Rattle.job.specs.declared.refusal.JobRefusal.{JobRefusal}
 use Rattle.job.specs.declared.refusal.JobRefusal.TheVariants.{RowCount, Unlawful}
@@ -64,6 +67,11 @@ abbrev pub verdict : Option ℕ → Result (Unit {0}) JobRefusal
 verdict None = Ok tt
 verdict (Some r) = Err (Unlawful r)
 
+-- an answer as a bare judgement, whatever it brings where the job is lawful
+abbrev pub judgement : {X : Type 0} → Result X JobRefusal → Result (Unit {0}) JobRefusal
+judgement (Ok x) = Ok tt
+judgement (Err e) = Err e
+
 abbrev pub checked : List Row → Result (Unit {0}) JobRefusal
 checked rows = cond (countable (length rows)) (verdict (lowest_unlawful rows)) (Err RowCount)
 
@@ -77,6 +85,12 @@ abbrev pub Judged : List Row → Result (Unit {0}) JobRefusal → Type 0
 Judged rows (Ok u) = Lawful rows
 Judged rows (Err RowCount) = (length rows < 1) ⊎ (most_rows < length rows)
 Judged rows (Err (Unlawful r)) = LowestUnlawful rows r
+
+-- the entry of row 0, which nothing encloses, says nothing
+pub record NearestRows (rows : List Row) (table : List ℕ) : Type 0 where
+  pub lawful : Lawful rows
+  pub sized : length table ≡ most_rows
+  pub near : (q : ℕ) → 0 < q → q < length rows → nearest rows q ≡ Some (slice_index table q)
 
 abbrev pub Nests : List Row → Type 0
 Nests rows =

@@ -1,4 +1,5 @@
 pub mod Entries
+pub mod Kinds
 pub mod Lawful
 pub mod Layouts
 pub mod Loops

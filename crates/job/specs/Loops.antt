@@ -3,6 +3,7 @@
 --     has_loop i c               there is such a loop: i iterations in chunks of c, neither 0 nor above the most
 --     chunk_sizes i c            how many iterations each chunk holds: c, but the last, which holds the rest
 --     work_row                   a work row of mark 1
+--     holding k n                a row of kind k and mark 0 that holds n rows
 --     async_row n                an async row that holds n rows
 --     finish_row n               a finish row that holds n rows
 --     chunk_rows n               the rows of a chunk of n iterations: an async row, and then a work row for each
@@ -16,6 +17,9 @@ use Rattle.std.specs.Prelude.{◌≡◌, ℕ, zero, suc, ◌+◌, ◌-◌, ◌<�
 use Rattle.std.specs.List.{range_with_len, flat_map}
 use Rattle.job.specs.declared.row.Row.{Row}
 use Rattle.job.specs.declared.loops.LoopSource.{LoopSource}
+use Rattle.job.specs.declared.kind.Kind.{Kind}
+use Rattle.job.specs.declared.kind.Kind.TheVariants.{Finish, Async}
+use Rattle.job.specs.Kinds.{kind_number}
 use Rattle.job.specs.Rows.{most_rows, row, is_work, is_async, encloses}
 use Rattle.job.specs.Lawful.{Lawful}
 
@@ -36,11 +40,14 @@ chunk_sizes i c = sizes_by i i c
 abbrev pub work_row : Row
 work_row = record { size = 1; kind = 0; mark = 1 }
 
+abbrev pub holding : Kind → ℕ → Row
+holding k n = record { size = 1 + n; kind = kind_number k; mark = 0 }
+
 abbrev pub async_row : ℕ → Row
-async_row n = record { size = 1 + n; kind = 2; mark = 0 }
+async_row n = holding Async n
 
 abbrev pub finish_row : ℕ → Row
-finish_row n = record { size = 1 + n; kind = 1; mark = 0 }
+finish_row n = holding Finish n
 
 abbrev pub chunk_rows : ℕ → List Row
 chunk_rows n = async_row n ∷ replicate n work_row

@@ -1,6 +1,6 @@
 // The check of a job: its number of rows, and the lowest unlawful row.
-ghost use Rattle.std.specs.Prelude.{◌≡◌, ℕ, ◌<◌, ◌≤◌, length, Some, None, Ok, slice_index};
-ghost use Rattle.job.specs.Lawful.{row_count, checked, lowest_unlawful, lawful_row, verdict, Judged, Nests};
+ghost use Rattle.std.specs.Prelude.{◌≡◌, ℕ, ◌<◌, ◌≤◌, length, Some, Ok, IfOk, slice_index};
+ghost use Rattle.job.specs.Lawful.{row_count, checked, lawful_row, judgement, Judged, NearestRows, Nests};
 ghost use Rattle.job.specs.Rows.{row, end, nearest};
 
 use crate::refusal::JobRefusal;
@@ -16,19 +16,8 @@ pub fn check<S: JobSource>(source: &S) -> Result<(), JobRefusal>
     ensures judged { Judged (S.JobSource.rows source.now) result }
     ensures nests { result ≡ Ok tt → Nests (S.JobSource.rows source.now) }
 {
-    let count = row_count(source)?;
-    let mut table = [0u16; MOST_ROWS];
-    told(first_unlawful(source, count, &mut table))
-}
-
-// The answer to the lowest unlawful row, or to none.
-pub(crate) fn told(lowest: Option<usize>) -> Result<(), JobRefusal>
-    ensures { result ≡ verdict lowest }
-{
-    match lowest {
-        Some(row) => Err(JobRefusal::Unlawful(row)),
-        None => Ok(()),
-    }
+    nearest_rows(source)?;
+    Ok(())
 }
 
 // How many rows a job has, refused where there are none or too many.
@@ -36,35 +25,33 @@ pub fn row_count<S: JobSource>(source: &S) -> Result<usize, JobRefusal>
     ensures { result ≡ row_count (length (S.JobSource.rows source.now)) }
 {
     let count = source.len();
-    if 1 <= count && count <= MOST_ROWS {
+    if (1..=MOST_ROWS).contains(&count) {
         Ok(count)
     } else {
         Err(JobRefusal::RowCount)
     }
 }
 
-// One pass, which notes the nearest enclosing row of each row in the table: each row looks for its
-// own among those that the row before it lies in, so that every row is left behind once.
-pub(crate) fn first_unlawful<S: JobSource>(
-    source: &S,
-    count: usize,
-    table: &mut [u16],
-) -> Option<usize>
-    requires { (count ≡ length (S.JobSource.rows source.now)) × ((1 ≤ count) × ((count ≤ 1024) × (length table.old ≡ 1024))) }
-    ensures lowest { result ≡ lowest_unlawful (S.JobSource.rows source.now) }
-    ensures tabled { result ≡ None → (q : ℕ) → 0 < q → q < count → nearest (S.JobSource.rows source.now) q ≡ Some (slice_index table.new q) }
+// The nearest enclosing row of each row but row 0; refused as the check says. One pass: each row
+// looks for its own among those that the row before it lies in, so that every row is left behind
+// once.
+pub(crate) fn nearest_rows<S: JobSource>(source: &S) -> Result<[u16; MOST_ROWS], JobRefusal>
+    ensures result { judgement result ≡ checked (S.JobSource.rows source.now) }
+    ensures near { IfOk result (NearestRows (S.JobSource.rows source.now)) }
 {
+    let count = row_count(source)?;
     if !first_is_lawful(source, count) {
-        return Some(0);
+        return Err(JobRefusal::Unlawful(0));
     }
+    let mut nearest = [0; MOST_ROWS];
     for r in 1..count {
-        let p = climb(source, table, r);
+        let p = climb(source, &nearest, r);
         if !is_lawful(source, r, p) {
-            return Some(r);
+            return Err(JobRefusal::Unlawful(r));
         }
-        table[r] = p as u16;
+        nearest[r] = p as u16;
     }
-    None
+    Ok(nearest)
 }
 
 // Whether row 0 is lawful; no row encloses it.
@@ -73,16 +60,17 @@ fn first_is_lawful<S: JobSource>(source: &S, count: usize) -> bool
     ensures { result ≡ lawful_row (S.JobSource.rows source.now) 0 }
 {
     let first = row_at(source, 0);
-    first.is_whole(count) && (first.is_known() && first.has_own_shape())
+    first.is_whole(count) && first.is_known() && first.has_own_shape()
 }
 
 // Whether a later row is lawful, by its nearest enclosing row.
 fn is_lawful<S: JobSource>(source: &S, r: usize, p: usize) -> bool
-    requires { (0 < r) × ((r < 1024) × ((p < 1024) × (nearest (S.JobSource.rows source.now) r ≡ Some p))) }
+    requires inside { (0 < r) × (r < 1024) }
+    requires near { nearest (S.JobSource.rows source.now) r ≡ Some p }
     ensures { result ≡ lawful_row (S.JobSource.rows source.now) r }
 {
     let here = row_at(source, r);
-    here.is_known() && (here.has_own_shape() && end_at(source, r) <= end_at(source, p))
+    here.is_known() && here.has_own_shape() && end_at(source, r) <= end_at(source, p)
 }
 
 // The nearest row that encloses r, from the table of the nearest rows before r: what has ended by
@@ -109,15 +97,9 @@ fn end_at<S: JobSource>(source: &S, r: usize) -> usize
 }
 
 // Row r, or a row of zeros past the last.
+#[tactic(auto, using(crate::proofs::RowRead::read_some, crate::proofs::RowRead::read_none))]
 pub fn row_at<S: JobSource>(source: &S, r: usize) -> Row
     ensures { result ≡ row (S.JobSource.rows source.now) r }
 {
-    match source.row(r) {
-        Some(here) => here,
-        None => Row {
-            size: 0,
-            kind: 0,
-            mark: 0,
-        },
-    }
+    source.row(r).unwrap_or_default()
 }

@@ -2,6 +2,7 @@
 #![tactic(auto)]
 
 mod entry;
+mod kind;
 mod lawful;
 mod layout;
 mod loops;
@@ -9,6 +10,7 @@ mod refusal;
 mod row;
 mod source;
 
+pub use kind::{Kind, UnknownKind};
 pub use lawful::{MOST_ROWS, check, row_at, row_count};
 pub use layout::Layout;
 pub use loops::LoopSource;

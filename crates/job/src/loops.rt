@@ -1,8 +1,9 @@
 // The loop source: a loop whose iterations are worked in chunks.
 ghost use Rattle.std.specs.Prelude.{◌≡◌, ◌+◌, ◌-◌, ◌^◌, ◌<◌, ◌≤◌, min, true, ◌&&◌, length, nat_le};
-ghost use Rattle.job.specs.Loops.{most_iterations, has_loop, work_row, async_row, finish_row, all_chunks, loop_rows, source_rows, LoopLaw};
+ghost use Rattle.job.specs.Loops.{most_iterations, has_loop, work_row, holding, all_chunks, loop_rows, source_rows, LoopLaw};
 ghost use Rattle.job.specs.Rows.{row};
 
+use crate::kind::Kind;
 use crate::row::Row;
 use crate::source::JobSource;
 
@@ -58,7 +59,7 @@ impl LoopSource {
     {
         let rows = self.chunk + 1;
         if place % rows == 0 {
-            async_row(self.held_after(place / rows * self.chunk))
+            holding(Kind::Async, self.held_after(place / rows * self.chunk))
         } else {
             work_row()
         }
@@ -69,7 +70,7 @@ impl LoopSource {
 fn in_limits(n: usize) -> bool
     ensures { result ≡ (nat_le 1 n && nat_le n most_iterations) }
 {
-    1 <= n && n <= MOST_ITERATIONS
+    (1..=MOST_ITERATIONS).contains(&n)
 }
 
 // A work row of mark 1.
@@ -78,31 +79,19 @@ fn work_row() -> Row
 {
     Row {
         size: 1,
-        kind: 0,
+        kind: Kind::Work.into(),
         mark: 1,
     }
 }
 
-// An async row that holds so many rows.
-fn async_row(held: usize) -> Row
+// A row of a kind that holds so many rows.
+fn holding(kind: Kind, held: usize) -> Row
     requires { held < 2 ^ 15 }
-    ensures { result ≡ async_row held }
+    ensures { result ≡ holding kind held }
 {
     Row {
         size: 1 + held as u16,
-        kind: 2,
-        mark: 0,
-    }
-}
-
-// A finish row that holds so many rows.
-fn finish_row(held: usize) -> Row
-    requires { held < 2 ^ 15 }
-    ensures { result ≡ finish_row held }
-{
-    Row {
-        size: 1 + held as u16,
-        kind: 1,
+        kind: kind.into(),
         mark: 0,
     }
 }
@@ -123,7 +112,7 @@ impl JobSource for LoopSource {
             return None;
         }
         if n == 0 {
-            Some(finish_row(self.rows_in_chunks()))
+            Some(holding(Kind::Finish, self.rows_in_chunks()))
         } else {
             Some(self.row_in_chunks(n - 1))
         }

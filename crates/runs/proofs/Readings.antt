@@ -2,8 +2,9 @@
 use Rattle.std.proofs.Common.{◌≡◌, ℕ, ◌+◌, ◌≤◌, List, ◌++◌, length, take, drop, Ok, Err, Result, sym, refl, ap, ◌∙◌, arith}
 use Rattle.std.proofs.lemmas.List.{take_at, length-append}
 use Rattle.job.specs.declared.row.Row.{Row}
-use Rattle.total.specs.Outputs.{put}
-use Rattle.total.proofs.Outputs.{put-append, put-fits}
+use Rattle.total.specs.Outputs.{put, put_end}
+use Rattle.total.specs.declared.output.OutputRefusal.{OutputRefusal}
+use Rattle.total.proofs.Outputs.{put-append, put-fits, put_end_ok}
 use Rattle.table.specs.RunTables.{run_header}
 use Rattle.table.specs.Texts.{counted, written}
 
@@ -36,3 +37,7 @@ header_then out mid after body m end e h p a fits =
     let room : 0 + length (run_header ++ body) ≤ length out = omega arith in
     let all : after ≡ put out 0 (run_header ++ body) = a ∙ ap (λ o. put o m body) h ∙ ap (λ k. put (put out 0 run_header) k body) e ∙ put-append out 0 run_header body room in
     ap (take end) (all ∙ put-fits out 0 (run_header ++ body) room) ∙ take_at (run_header ++ body) (drop (0 + length (run_header ++ body)) out) end (omega arith)
+
+-- where the header ends
+pub header : (out : List ℕ) (m : ℕ) (r : Result ℕ OutputRefusal) → r ≡ put_end out 0 run_header → r ≡ Ok m → m ≡ 37
+header out m r e is = (put_end_ok out 0 run_header m (sym e ∙ is)).1

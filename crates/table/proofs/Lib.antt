@@ -1,7 +1,6 @@
 mod Ends
 mod Examples
 mod Fronts
-pub mod Laying
 mod Numbers
 mod Pieces
 mod Quotes

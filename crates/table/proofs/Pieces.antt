@@ -1,12 +1,12 @@
 -- A job table that is checked, measured and put into an output row by row.
-use Rattle.std.proofs.Common.{◌≡◌, ℕ, ◌+◌, ◌-◌, ◌<◌, ◌≤◌, Bool, true, false, cond, eqb, leb, List, [], ◌∷◌, ◌++◌, length, get_or, take, drop, Some, None, codes, decimal, sym, ap, ◌∙◌, subst, append_assoc, arith, length-append}
+use Rattle.std.proofs.Common.{◌≡◌, ℕ, ◌+◌, ◌-◌, ◌<◌, ◌≤◌, Bool, true, false, cond, eqb, leb, List, [], ◌∷◌, ◌++◌, length, get_or, take, drop, Some, None, codes, decimal, sym, ap, ◌∙◌, subst, arith, length-append}
 use Rattle.std.proofs.lemmas.List.{at_drop_more, flat_map_more, take_more, take-append-drop}
 use Rattle.std.proofs.lemmas.Bool.Decides.{nat_tests}
 use Rattle.std.specs.List.{flat_map}
 use Rattle.job.specs.declared.row.Row.{Row}
 use Rattle.table.specs.declared.write.WriteFault.TheVariants.{Field}
 use Rattle.table.specs.JobTexts.{kind_word, row_text, bad_field, or_fault, first_bad}
-use Rattle.table.proofs.Laying.{Laid, laid_more}
+use Rattle.total.proofs.Outputs.{Laid}
 
 -- what is read past the last row
 abbrev pub no_row : Row
@@ -41,31 +41,6 @@ joined_left rows i d h = ap length (at_drop_more (flat_map row_text) rows i d h)
 
 pub fits_more : (len rest all left : ℕ) → all ≡ len + rest → len ≤ left → leb all left ≡ leb rest (left - len)
 fits_more len rest all left e h = grind (arith, nat_tests)
-
--- a row's six pieces, one after the other
-module _ (out : List ℕ) (at : ℕ) (r : Row) (room : at + length (row_text r) ≤ length out) where
-  pub laid-row :
-      (o₁ o₂ o₃ o₄ o₅ o₆ : List ℕ) (m₁ m₂ m₃ m₄ m₅ m₆ : ℕ) →
-      Laid out at (kind_word r.kind) o₁ m₁ →
-      Laid o₁ m₁ (codes ",") o₂ m₂ →
-      Laid o₂ m₂ (decimal r.size) o₃ m₃ →
-      Laid o₃ m₃ (codes ",") o₄ m₄ →
-      Laid o₄ m₄ (decimal r.mark) o₅ m₅ →
-      Laid o₅ m₅ (codes "\r\n") o₆ m₆ →
-      Laid out at (row_text r) o₆ m₆
-  laid-row o₁ o₂ o₃ o₄ o₅ o₆ m₁ m₂ m₃ m₄ m₅ m₆ one two three four five six =
-      let a = kind_word r.kind in
-      let s = decimal r.size in
-      let m = decimal r.mark in
-      let comma = codes "," in
-      let sizes = length-row r in
-      let p₂ = laid_more out at a comma o₁ o₂ m₁ m₂ one two.ends two.is (simp length-append (omega (arith, sizes))) in
-      let p₃ = laid_more out at (a ++ comma) s o₂ o₃ m₂ m₃ p₂ three.ends three.is (simp length-append (omega (arith, sizes))) in
-      let p₄ = laid_more out at ((a ++ comma) ++ s) comma o₃ o₄ m₃ m₄ p₃ four.ends four.is (simp length-append (omega (arith, sizes))) in
-      let p₅ = laid_more out at (((a ++ comma) ++ s) ++ comma) m o₄ o₅ m₄ m₅ p₄ five.ends five.is (simp length-append (omega (arith, sizes))) in
-      let p₆ = laid_more out at ((((a ++ comma) ++ s) ++ comma) ++ m) (codes "\r\n") o₅ o₆ m₅ m₆ p₅ six.ends six.is (simp length-append (omega (arith, sizes))) in
-      let flat : ((((a ++ comma) ++ s) ++ comma) ++ m) ++ codes "\r\n" ≡ row_text r = simp append_assoc in
-      subst (λ l. Laid out at l o₆ m₆) flat p₆
 
 pub laid_as : {out : List ℕ} {at : ℕ} {xs ys after : List ℕ} {end : ℕ} → xs ≡ ys → Laid out at xs after end → Laid out at ys after end
 laid_as {out} {at} {xs} {ys} {after} {end} e laid = subst (λ l. Laid out at l after end) e laid

@@ -9,7 +9,7 @@
 use Rattle.std.specs.Prelude.{◌≡◌, ℕ, ◌+◌, cond, ◌||◌, List, [], ◌∷◌, ◌++◌, Some, None, Ok, Err, codes, decimal, Option, Result, ◌==◌, nat_lt}
 use Rattle.std.specs.List.{flat_map}
 use Rattle.job.specs.declared.row.Row.{Row}
-use Rattle.total.specs.declared.output.OutputShort.{OutputShort}
+use Rattle.total.specs.declared.output.OutputRefusal.{OutputRefusal}
 use Rattle.total.specs.Outputs.{put, put_end}
 use Rattle.table.specs.declared.write.WriteFault.{WriteFault}
 use Rattle.table.specs.declared.write.WriteFault.TheVariants.{Field, Short}
@@ -42,7 +42,7 @@ abbrev pub Allowed : List Row → Type 0
 Allowed [] = Unit {0}
 Allowed (r ∷ rows) = (bad_field r ≡ None) × Allowed rows
 
-abbrev pub or_short : Result ℕ OutputShort → Result ℕ WriteFault
+abbrev pub or_short : Result ℕ OutputRefusal → Result ℕ WriteFault
 or_short (Ok end) = Ok end
 or_short (Err e) = Err Short
 

@@ -2,7 +2,6 @@
 #![tactic(auto)]
 
 mod field;
-mod lay;
 mod record;
 mod run;
 mod text;

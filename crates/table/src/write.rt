@@ -1,12 +1,13 @@
 // Job tables written to a lent output.
 ghost use Rattle.std.specs.Prelude.{◌≡◌, ℕ, ◌+◌, ◌≤◌, length, take, IfOk, Ok, nat_le};
-ghost use Rattle.total.specs.Outputs.{put};
+ghost use Rattle.total.specs.Outputs.{put, put_end};
+ghost use Rattle.table.specs.declared.write.WriteFault.TheVariants.{Short};
 ghost use Rattle.table.specs.JobTexts.{kind_word, row_text, table_text, bad_field, first_bad, unless_bad, write_end, write_after, write_number, write_told};
 ghost use Rattle.table.specs.Texts.{read};
 
-use crate::lay::{lay, lay_number};
-use job::{Refusal, Row};
-use total::number_len;
+use itoa::Buffer;
+use job::{Kind, Refusal, Row};
+use total::{OutputRefusal, number_len, put_bytes, put_pieces};
 
 // Why rows are not written.
 #[derive(Clone, Copy, PartialEq, Eq, Debug)]
@@ -37,6 +38,16 @@ impl Refusal for WriteFault {
     }
 }
 
+impl From<OutputRefusal> for WriteFault {
+    ghost from_gives = { λ e f. f ≡ Short };
+
+    fn from(refusal: OutputRefusal) -> WriteFault {
+        match refusal {
+            OutputRefusal::TooShort => WriteFault::Short,
+        }
+    }
+}
+
 // The first line of a job table.
 const HEADER: &[u8] = b"kind,size,mark\r\n";
 
@@ -44,9 +55,9 @@ const HEADER: &[u8] = b"kind,size,mark\r\n";
 fn bad_field(row: Row) -> Option<u8>
     ensures { result ≡ bad_field row }
 {
-    if row.kind > 2 {
+    if row.kind().is_none() {
         Some(1)
-    } else if row.size < 1 || row.size > 1024 {
+    } else if !(1..=1024).contains(&row.size) {
         Some(2)
     } else {
         None
@@ -65,12 +76,13 @@ fn check_rows(rows: &[Row]) -> Result<(), WriteFault>
     Ok(())
 }
 
-fn kind_word(kind: u8) -> &'static [u8]
-    ensures { result.now ≡ kind_word kind }
+// The word for a row's kind. A row of no kind is never written.
+fn kind_word(row: Row) -> &'static [u8]
+    ensures { result.now ≡ kind_word row.kind }
 {
-    match kind {
-        0 => b"work",
-        1 => b"finish",
+    match row.kind() {
+        Some(Kind::Work) => b"work",
+        Some(Kind::Finish) => b"finish",
         _ => b"async",
     }
 }
@@ -78,10 +90,7 @@ fn kind_word(kind: u8) -> &'static [u8]
 fn row_len(row: Row) -> usize
     ensures { result ≡ length (row_text row) }
 {
-    kind_word(row.kind).len()
-        + number_len(u64::from(row.size))
-        + number_len(u64::from(row.mark))
-        + 4
+    kind_word(row).len() + number_len(row.size) + number_len(row.mark) + 4
 }
 
 // Whether the table of these rows has no more bytes than there is room for. The room that is left
@@ -103,31 +112,37 @@ fn table_fits(rows: &[Row], room: usize) -> bool
     true
 }
 
-// Puts a row's record, and answers the place after it.
-fn lay_row(out: &mut [u8], at: usize, row: Row) -> usize
-    requires { at + length (row_text row) ≤ length out.old }
-    ensures place { result ≡ at + length (row_text row) }
+// Puts a row's record, as `put_bytes` does its bytes.
+fn put_row(out: &mut [u8], at: usize, row: Row) -> Result<usize, OutputRefusal>
+    ensures result { result ≡ put_end out.old at (row_text row) }
     ensures after { out.new ≡ put out.old at (row_text row) }
 {
-    let at = lay(out, at, kind_word(row.kind));
-    let at = lay(out, at, b",");
-    let at = lay_number(out, at, u64::from(row.size));
-    let at = lay(out, at, b",");
-    let at = lay_number(out, at, u64::from(row.mark));
-    lay(out, at, b"\r\n")
+    let mut size = Buffer::new();
+    let mut mark = Buffer::new();
+    let fields = [
+        kind_word(row),
+        b",",
+        size.format(row.size).as_bytes(),
+        b",",
+        mark.format(row.mark).as_bytes(),
+        b"\r\n",
+    ];
+    put_pieces(out, at, &fields)
 }
 
-// Puts the table of the rows at the start of the output, and answers the place after it.
-fn lay_table(rows: &[Row], out: &mut [u8]) -> usize
-    requires { length (table_text rows.now) ≤ length out.old }
-    ensures place { result ≡ length (table_text rows.now) }
+// Puts the table of the rows at the start of the output, as `put_bytes` does bytes.
+fn put_table(rows: &[Row], out: &mut [u8]) -> Result<usize, OutputRefusal>
+    ensures result { result ≡ put_end out.old 0 (table_text rows.now) }
     ensures after { out.new ≡ put out.old 0 (table_text rows.now) }
 {
-    let mut at = lay(out, 0, HEADER);
-    for row in rows {
-        at = lay_row(out, at, *row);
+    if !table_fits(rows, out.len()) {
+        return Err(OutputRefusal::TooShort);
     }
-    at
+    let mut at = put_bytes(out, 0, HEADER)?;
+    for row in rows {
+        at = put_row(out, at, *row)?;
+    }
+    Ok(at)
 }
 
 // Writes the job table of the rows to the start of the output, and answers how many bytes it has.
@@ -139,8 +154,5 @@ pub fn write_rows(rows: &[Row], out: &mut [u8]) -> Result<usize, WriteFault>
     ensures reads_back { IfOk result (λ n. n ≤ 65536 → (room : ℕ) → length rows.now ≤ room → read room (take n out.new) ≡ Ok rows.now) }
 {
     check_rows(rows)?;
-    if !table_fits(rows, out.len()) {
-        return Err(WriteFault::Short);
-    }
-    Ok(lay_table(rows, out))
+    Ok(put_table(rows, out)?)
 }

@@ -1,5 +1,4 @@
 pub mod Answering
-mod Digits
 pub mod Filled
 mod Filling
 mod Gathering

@@ -1,9 +1,11 @@
 -- What is put into an output. Assumes nothing.
-use Rattle.std.proofs.Common.{◌≡◌, ℕ, ◌+◌, ◌<◌, ◌≤◌, cond, leb, List, [], ◌++◌, length, take, drop, Ok, Err, sym, refl, ap, ◌∙◌, ap₂, ⊎_elim, append_assoc, add-zero, add_assoc, arith, length-append, length-drop, take-append-drop, length-take}
-use Rattle.std.proofs.lemmas.List.{take_at, drop_at, drop-drop}
+use Rattle.std.proofs.Common.{◌≡◌, ℕ, ◌+◌, ◌<◌, ◌≤◌, cond, leb, List, [], ◌++◌, length, get_or, Bor, take, drop, Ok, Err, sym, refl, ap, ◌∙◌, ap₂, ⊎_elim, append_assoc, add-zero, add_assoc, arith, length-append, length-drop, take-append-drop, length-take}
+use Rattle.std.proofs.lemmas.List.{take_at, drop_at, drop-drop, take_more, flat_map_more}
+use Rattle.std.proofs.lemmas.List.Folds.{length-flat_map-take}
 use Rattle.std.proofs.lemmas.Bool.{le-leb, lt-leb, leb-true, cond-true, cond-false, cond_both, cases_lt}
-use Rattle.total.specs.declared.output.OutputShort.{OutputShort}
-use Rattle.total.specs.Outputs.{fits, put, put_end}
+use Rattle.total.specs.declared.output.OutputRefusal.{OutputRefusal}
+use Rattle.total.specs.declared.output.OutputRefusal.TheVariants.{TooShort}
+use Rattle.total.specs.Outputs.{fits, put, put_end, pieced}
 
 module _ (out : List ℕ) (at : ℕ) (bytes : List ℕ) where
   pub put-fits : at + length bytes ≤ length out → put out at bytes ≡ take at out ++ (bytes ++ drop (at + length bytes) out)
@@ -15,7 +17,7 @@ module _ (out : List ℕ) (at : ℕ) (bytes : List ℕ) where
   pub put_end-fits : at + length bytes ≤ length out → put_end out at bytes ≡ Ok (at + length bytes)
   put_end-fits h = cond-true _ _ _ (le-leb _ _ h)
 
-  pub put_end_short : length out < at + length bytes → put_end out at bytes ≡ Err (record {})
+  pub put_end_short : length out < at + length bytes → put_end out at bytes ≡ Err TooShort
   put_end_short h = cond-false _ _ _ (lt-leb _ _ h)
 
   -- the way back, for what an `Ok` tells
@@ -45,7 +47,7 @@ module _ (out : List ℕ) (at : ℕ) (xs ys : List ℕ) where
 
   -- writing xs and then ys ends as writing the two at once, or is refused as that is
   pub put_end-append : put_end (put out at xs) (at + length xs) ys ≡ put_end out at (xs ++ ys)
-  put_end-append = ap₂ (λ end room. cond (leb end room) (Ok end) (Err (record {}))) end-append (length-put out at xs)
+  put_end-append = ap₂ (λ end room. cond (leb end room) (Ok end) (Err TooShort)) end-append (length-put out at xs)
 
   -- and where all fits it writes the same
   pub put-append : at + length (xs ++ ys) ≤ length out → put (put out at xs) (at + length xs) ys ≡ put out at (xs ++ ys)
@@ -65,23 +67,44 @@ module _ (out : List ℕ) (at : ℕ) (xs ys : List ℕ) where
       ∙ sym (put-fits out at (xs ++ ys) h)
 
 -- bytes that have room are not refused
-pub put_end-room : (out : List ℕ) (at : ℕ) (bytes : List ℕ) (e : OutputShort) → at + length bytes ≤ length out → Err e ≡ put_end out at bytes → ⊥
+pub put_end-room : (out : List ℕ) (at : ℕ) (bytes : List ℕ) (e : OutputRefusal) → at + length bytes ≤ length out → Err e ≡ put_end out at bytes → ⊥
 put_end-room out at bytes e room was = let p = put_end-fits out at bytes room in let z : ◌≡◌ {A = ℕ} 0 1 = cc in omega arith
 
--- xs put at a place, and then ys at the place after them, where both have room
-module _ (out : List ℕ) (at : ℕ) (xs ys : List ℕ) (room : at + length (xs ++ ys) ≤ length out) where
-  pub room-first : at + length xs ≤ length out
-  room-first = omega (arith, length-append xs ys)
+-- xs were put from a place on, up to the place after them
+pub record Laid (out : List ℕ) (at : ℕ) (xs after : List ℕ) (end : ℕ) : Type 0 where
+  pub is : after ≡ put out at xs
+  pub ends : end ≡ at + length xs
 
-  module _ (next : List ℕ) (mid : ℕ) (ends : Ok mid ≡ put_end out at xs) (is : next ≡ put out at xs) where
-    mid_is : mid ≡ at + length xs
-    mid_is = (put_end_ok out at xs mid (sym ends)).1
+pub laid_none : (out : List ℕ) (at : ℕ) → Laid out at [] out at
+laid_none out at = record { is = sym (put_none out at); ends = sym (add-zero at) }
 
-    pub room_next : mid + length ys ≤ length next
-    room_next = omega (arith, mid_is, ap length is, length-put out at xs, length-append xs ys)
+pub laid_by : (out : List ℕ) (at : ℕ) (xs after : List ℕ) (end : ℕ) → Ok end ≡ put_end out at xs → after ≡ put out at xs → Laid out at xs after end
+laid_by out at xs after end e a = record { is = a; ends = (put_end_ok out at xs end (sym e)).1 }
 
-    pub both_end : put_end next mid ys ≡ put_end out at (xs ++ ys)
-    both_end = ap₂ (λ l k. put_end l k ys) is mid_is ∙ put_end-append out at xs ys
+-- ys put after them
+module _ {out : List ℕ} {at : ℕ} {xs mid : List ℕ} {m : ℕ} (laid : Laid out at xs mid m) (ys : List ℕ) (room : at + length (xs ++ ys) ≤ length out) where
+  pub laid_room : m + length ys ≤ length mid
+  laid_room = omega (arith, laid.ends, ap length laid.is, length-put out at xs, length-append xs ys)
 
-    pub both_put : put next mid ys ≡ put out at (xs ++ ys)
-    both_put = ap₂ (λ l k. put l k ys) is mid_is ∙ put-append out at xs ys room
+  pub laid_put : put mid m ys ≡ put out at (xs ++ ys)
+  laid_put = ap (λ p. put p m ys) laid.is ∙ ap (λ k. put (put out at xs) k ys) laid.ends ∙ put-append out at xs ys room
+
+  pub laid_more : (after : List ℕ) (end : ℕ) → Ok end ≡ put_end mid m ys → after ≡ put mid m ys → Laid out at (xs ++ ys) after end
+  laid_more after end e a =
+      let last = laid_by mid m ys after end e a in
+      record { is = a ∙ laid_put; ends = omega (arith, laid.ends, last.ends, length-append xs ys) }
+
+-- what is read past the last piece
+abbrev pub no_piece : Bor (List ℕ)
+no_piece = record { ref_ptr = (0, 0); now = [] }
+
+module _ (ps : List (Bor (List ℕ))) (i : ℕ) (inside : i < length ps) where
+  -- the pieces before the next, and that one
+  pub pieced_next : pieced (take i ps) ++ (get_or ps i no_piece).now ≡ pieced (take (i + 1) ps)
+  pieced_next = flat_map_more (λ (p : Bor (List ℕ)). p.now) [] (take i ps) (get_or ps i no_piece) ∙ ap pieced (sym (take_more ps i no_piece inside))
+
+  pub pieces_more : length (pieced (take (i + 1) ps)) ≡ length (pieced (take i ps)) + length (get_or ps i no_piece).now
+  pieces_more = ap length (sym pieced_next) ∙ length-append _ _
+
+  pub pieces_room : length (pieced (take i ps)) + length (get_or ps i no_piece).now ≤ length (pieced ps)
+  pieces_room = length-flat_map-take (λ (p : Bor (List ℕ)). p.now) ps i no_piece inside

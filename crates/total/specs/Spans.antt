@@ -18,6 +18,7 @@ use Rattle.std.specs.Fmt.{signed_decimal}
 use Rattle.std.specs.Ordering.{int_eq}
 use Rattle.total.specs.declared.span.Span.{Span}
 use Rattle.total.specs.declared.span.SpanRefusal.{SpanRefusal}
+use Rattle.total.specs.declared.span.SpanRefusal.TheVariants.{BadYears}
 
 pub data Years : Type 0 where
   no_years : Years
@@ -62,14 +63,14 @@ abbrev pub span_text : Span → List ℕ
 span_text s = years_text (span_meaning s)
 
 abbrev pub spanned : ℤ → ℤ → Result Years SpanRefusal
-spanned a b = cond (in_order a b) (Ok (years a b)) (Err (record {}))
+spanned a b = cond (in_order a b) (Ok (years a b)) (Err BadYears)
 
 abbrev pub meant : Result Span SpanRefusal → Result Years SpanRefusal
 meant (Ok s) = Ok (span_meaning s)
 meant (Err e) = Err e
 
 abbrev pub span_number : SpanRefusal → ℕ
-span_number r = 19
+span_number BadYears = 19
 
 abbrev pub span_told : SpanRefusal → List ℕ
-span_told r = []
+span_told BadYears = []

@@ -7,7 +7,7 @@ ghost use Rattle.total.specs.Serial.{line_of, with_line, gathered, serial, Seria
 ghost use Rattle.total.specs.declared.book.BookRefusal.TheVariants.{Job};
 
 use crate::kind::Total;
-use job::{JobRefusal, JobSource, Refusal, Row, check, row_at, row_count};
+use job::{JobRefusal, JobSource, Kind, Refusal, Row, check, row_at, row_count};
 
 // Why a book was not filled in.
 #[derive(Clone, Copy, PartialEq, Eq, Debug)]
@@ -72,9 +72,9 @@ pub fn fill_serial_totals<S: JobSource, K: Total + Drop>(
 fn with_row<K: Total + Drop>(sum: K, x: Row, line: &K) -> K
     ensures { K.Total.meaning result ≡ with_line K.Total.none K.Total.joined K.Total.sealed x (K.Total.meaning sum) (K.Total.meaning line.now) }
 {
-    match x.kind {
-        0 => sum.join(line),
-        1 => sum.join(&line.seal(x.mark)),
+    match x.kind() {
+        Some(Kind::Work) => sum.join(line),
+        Some(Kind::Finish) => sum.join(&line.seal(x.mark)),
         _ => sum,
     }
 }
@@ -85,7 +85,7 @@ fn next_row(x: Row, r: usize) -> usize
     requires { r < 1024 }
     ensures { result ≡ (if is_finish x then r + x.size else r + 1) }
 {
-    if x.kind == 1 {
+    if x.is_finish() {
         r + x.size as usize
     } else {
         r + 1
@@ -120,9 +120,9 @@ fn fill_lines<S: JobSource, K: Total + Drop>(source: &S, count: usize, book: &mu
     ensures same { (k : ℕ) (d : K) → keeps_line (S.JobSource.rows source.now) k ≡ true → slice_index_or book.new k d ≡ slice_index_or book.old k d }
 {
     for r in (0..count).rev() {
-        match row_at(source, r).kind {
-            1 => book[r] = gather(source, book, r),
-            2 => book[r] = K::nothing(),
+        match row_at(source, r).kind() {
+            Some(Kind::Finish) => book[r] = gather(source, book, r),
+            Some(Kind::Async) => book[r] = K::nothing(),
             _ => {}
         }
     }

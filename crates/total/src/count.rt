@@ -6,7 +6,7 @@ ghost use Rattle.total.specs.Numbers.{same_number};
 ghost use Rattle.std.proofs.lemmas.Fmt.{length-decimal-le};
 
 use crate::kind::{Printed, Total};
-use crate::output::{DIGITS, OutputShort, number_len, put_number};
+use crate::output::{OutputRefusal, number_len, put_number};
 
 #[derive(Clone, Copy, PartialEq, Eq, Debug)]
 pub struct Count {
@@ -50,9 +50,9 @@ impl Total for Count {
 }
 
 impl Printed for Count {
-    const LONGEST: usize = DIGITS;
+    const LONGEST: usize = 20;
 
-    ghost most = { 20 };
+    ghost LONGEST = { 20 };
 
     ghost text = { count_text };
 
@@ -60,15 +60,11 @@ impl Printed for Count {
 
     ghost same = { λ x y e. ap (λ n. decimal n.value) e };
 
-    fn most() -> usize {
-        Self::LONGEST
-    }
-
     fn text_len(&self) -> usize {
         number_len(self.value)
     }
 
-    fn write(&self, out: &mut [u8], at: usize) -> Result<usize, OutputShort> {
+    fn write(&self, out: &mut [u8], at: usize) -> Result<usize, OutputRefusal> {
         put_number(out, at, self.value)
     }
 }

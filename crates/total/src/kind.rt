@@ -2,7 +2,7 @@
 ghost use Rattle.std.specs.Prelude.{◌≡◌, ℕ, ◌≤◌, List, length};
 ghost use Rattle.total.specs.Outputs.{put, put_end};
 
-use crate::output::OutputShort;
+use crate::output::OutputRefusal;
 
 // A kind of total: what its values mean, a value called nothing, a join of two values and a
 // seal of a value with a mark. The laws are about meanings, so two values are equal as totals
@@ -39,24 +39,19 @@ pub trait Printed: Total {
     // The length of the longest text.
     const LONGEST: usize;
 
-    // LONGEST as clauses name it
-    ghost most: { ℕ };
+    ghost LONGEST: { ℕ };
 
     ghost text: { Self → List ℕ };
-
-    // LONGEST by a call: of the constant itself, code over any kind knows nothing.
-    fn most() -> usize
-        ensures { result ≡ most };
 
     fn text_len(&self) -> usize
         ensures { result ≡ length (text self.now) };
 
     // Puts the text into the output, as `put_bytes` does its bytes.
-    fn write(&self, out: &mut [u8], at: usize) -> Result<usize, OutputShort>
+    fn write(&self, out: &mut [u8], at: usize) -> Result<usize, OutputRefusal>
         ensures result { result ≡ put_end out.old at (text self.now) }
         ensures after { out.new ≡ put out.old at (text self.now) };
 
-    ghost bounded: { (x : Self) → length (text x) ≤ most };
+    ghost bounded: { (x : Self) → length (text x) ≤ LONGEST };
 
     ghost same: { (x y : Self) → Self.Total.meaning x ≡ Self.Total.meaning y → text x ≡ text y };
 }

@@ -6,10 +6,9 @@ mod count;
 mod kind;
 mod output;
 mod span;
-mod year;
 
 pub use book::{BookRefusal, fill_serial_totals};
 pub use count::Count;
 pub use kind::{Printed, Total};
-pub use output::{OutputShort, number_len, put_bytes, put_number};
+pub use output::{OutputRefusal, has_room, number_len, put_bytes, put_number, put_pieces};
 pub use span::{Span, SpanRefusal};

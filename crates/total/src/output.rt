@@ -1,24 +1,32 @@
 // Bytes put into a lent output.
-ghost use Rattle.std.specs.Prelude.{◌≡◌, ◌+◌, ◌≤◌, length, drop, decimal, nat_le};
-ghost use Rattle.total.specs.Outputs.{put, put_end, output_number, output_told};
+ghost use Rattle.std.specs.Prelude.{◌≡◌, ◌+◌, ◌≤◌, length, nat_le};
+ghost use Rattle.total.specs.Outputs.{put, put_end, pieced, output_number, output_told};
 
+use itoa::{Buffer, Integer};
 use job::Refusal;
 
-// The output is too short.
+// Why bytes were not put into an output.
 #[derive(Clone, Copy, PartialEq, Eq, Debug)]
-pub struct OutputShort;
+pub enum OutputRefusal {
+    // they have no room
+    TooShort,
+}
 
-impl Refusal for OutputShort {
+impl Refusal for OutputRefusal {
     ghost numbered = { output_number };
 
     ghost told = { output_told };
 
     fn number(&self) -> u8 {
-        18
+        match self {
+            OutputRefusal::TooShort => 18,
+        }
     }
 
     fn place(&self) -> Option<usize> {
-        None
+        match self {
+            OutputRefusal::TooShort => None,
+        }
     }
 }
 
@@ -32,53 +40,65 @@ pub fn has_room(out: &[u8], at: usize, count: usize) -> bool
 
 // Puts the bytes into the output from `at` on, and answers the place after them. Where they have
 // no room the output stays as it was.
-pub fn put_bytes(out: &mut [u8], at: usize, bytes: &[u8]) -> Result<usize, OutputShort>
+pub fn put_bytes(out: &mut [u8], at: usize, bytes: &[u8]) -> Result<usize, OutputRefusal>
     ensures result { result ≡ put_end out.old at bytes.now }
     ensures after { out.new ≡ put out.old at bytes.now }
 {
     if !has_room(out, at, bytes.len()) {
-        return Err(OutputShort);
+        return Err(OutputRefusal::TooShort);
     }
     let end = at + bytes.len();
     out[at..end].copy_from_slice(bytes);
     Ok(end)
 }
 
-// The most digits that a number has.
-pub const DIGITS: usize = 20;
-
-// Puts the digits of n at the end of the buffer, and answers where they start.
-fn put_digits(buffer: &mut [u8; DIGITS], n: u64) -> usize
-    ensures start { result + length (decimal n) ≡ 20 }
-    ensures digits { drop result buffer.new ≡ decimal n }
+// Whether the pieces have room in an output of this size from `at` on. What is left is counted
+// down, since their bytes may be more than a number holds.
+fn pieces_fit(size: usize, at: usize, pieces: &[&[u8]]) -> bool
+    ensures { result ≡ nat_le (at + length (pieced pieces.now)) size }
 {
-    let mut start = DIGITS;
-    let mut rest = n;
-    loop {
-        start -= 1;
-        buffer[start] = b'0' + (rest % 10) as u8;
-        rest /= 10;
-        if rest == 0 {
-            return start;
-        }
+    if at > size {
+        return false;
     }
+    let mut left = size - at;
+    for piece in pieces {
+        if piece.len() > left {
+            return false;
+        }
+        left -= piece.len();
+    }
+    true
 }
 
-// Puts the digits of n into the output, as `put_bytes` does.
-pub fn put_number(out: &mut [u8], at: usize, n: u64) -> Result<usize, OutputShort>
-    ensures result { result ≡ put_end out.old at (decimal n) }
-    ensures after { out.new ≡ put out.old at (decimal n) }
+// Puts the pieces one after the other, as `put_bytes` does bytes: all of them, or none.
+pub fn put_pieces(out: &mut [u8], at: usize, pieces: &[&[u8]]) -> Result<usize, OutputRefusal>
+    ensures result { result ≡ put_end out.old at (pieced pieces.now) }
+    ensures after { out.new ≡ put out.old at (pieced pieces.now) }
 {
-    let mut buffer = [0; DIGITS];
-    let start = put_digits(&mut buffer, n);
-    put_bytes(out, at, &buffer[start..])
+    if !pieces_fit(out.len(), at, pieces) {
+        return Err(OutputRefusal::TooShort);
+    }
+    let mut next = at;
+    for piece in pieces {
+        next = put_bytes(out, next, piece)?;
+    }
+    Ok(next)
 }
 
-// How many digits n has.
-pub fn number_len(n: u64) -> usize
-    ensures size { result ≡ length (decimal n) }
-    ensures few { result ≤ 20 }
+// Puts n into the output in decimal, as `put_bytes` does.
+pub fn put_number<I: Integer>(out: &mut [u8], at: usize, n: I) -> Result<usize, OutputRefusal>
+    ensures result { result ≡ put_end out.old at (I.Integer.text n) }
+    ensures after { out.new ≡ put out.old at (I.Integer.text n) }
 {
-    let mut buffer = [0; DIGITS];
-    DIGITS - put_digits(&mut buffer, n)
+    let mut buffer = Buffer::new();
+    put_bytes(out, at, buffer.format(n).as_bytes())
+}
+
+// How many bytes n has in decimal.
+pub fn number_len<I: Integer>(n: I) -> usize
+    ensures size { result ≡ length (I.Integer.text n) }
+    ensures few { result ≤ I.Integer.MAX_STR_LEN }
+{
+    let mut buffer = Buffer::new();
+    buffer.format(n).len()
 }

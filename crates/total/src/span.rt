@@ -10,13 +10,16 @@ ghost use Rattle.total.specs.SpansLemmas.{hull_assoc, hull_comm, hull_none, year
 ghost use Rattle.total.specs.SpanTexts.{text_short};
 
 use crate::kind::{Printed, Total};
-use crate::output::{OutputShort, has_room, put_bytes};
-use crate::year::{put_year, year_len};
+use crate::output::{OutputRefusal, number_len, put_bytes, put_pieces};
+use itoa::Buffer;
 use job::Refusal;
 
-// A year is out of range, or the years are out of order.
+// Why two years make no span.
 #[derive(Clone, Copy, PartialEq, Eq, Debug)]
-pub struct SpanRefusal;
+pub enum SpanRefusal {
+    // one is out of range, or they are out of order
+    BadYears,
+}
 
 impl Refusal for SpanRefusal {
     ghost numbered = { span_number };
@@ -24,11 +27,15 @@ impl Refusal for SpanRefusal {
     ghost told = { span_told };
 
     fn number(&self) -> u8 {
-        19
+        match self {
+            SpanRefusal::BadYears => 19,
+        }
     }
 
     fn place(&self) -> Option<usize> {
-        None
+        match self {
+            SpanRefusal::BadYears => None,
+        }
     }
 }
 
@@ -46,7 +53,7 @@ const LAST_YEAR: i32 = 9999;
 fn in_order(first: i32, last: i32) -> bool
     ensures { result ≡ in_order first last }
 {
-    -LAST_YEAR <= first && (first <= last && last <= LAST_YEAR)
+    -LAST_YEAR <= first && first <= last && last <= LAST_YEAR
 }
 
 impl Span {
@@ -55,7 +62,7 @@ impl Span {
         ensures { meant result ≡ spanned first last }
     {
         if !in_order(first, last) {
-            return Err(SpanRefusal);
+            return Err(SpanRefusal::BadYears);
         }
         Ok(Span {
             first: first as i16,
@@ -86,17 +93,6 @@ impl Span {
         ensures { result ≡ self.last -ℤ self.first }
     {
         i32::from(self.last) - i32::from(self.first)
-    }
-
-    // Puts the first year, a slash and the last year into an output that has room for them.
-    fn put_years(self, out: &mut [u8], at: usize) -> Result<usize, OutputShort>
-        requires { at + length (years_text (years self.first self.last)) ≤ length out.old }
-        ensures result { result ≡ put_end out.old at (years_text (years self.first self.last)) }
-        ensures after { out.new ≡ put out.old at (years_text (years self.first self.last)) }
-    {
-        let slash = put_year(out, at, self.first)?;
-        let rest = put_slash(out, slash)?;
-        put_year(out, rest, self.last)
     }
 }
 
@@ -164,18 +160,10 @@ impl Total for Span {
     }
 }
 
-// Puts the slash between two years into the output, as `put_bytes` does its bytes.
-fn put_slash(out: &mut [u8], at: usize) -> Result<usize, OutputShort>
-    ensures result { result ≡ put_end out.old at (47 ∷ []) }
-    ensures after { out.new ≡ put out.old at (47 ∷ []) }
-{
-    put_bytes(out, at, b"/")
-}
-
 impl Printed for Span {
     const LONGEST: usize = 11;
 
-    ghost most = { 11 };
+    ghost LONGEST = { 11 };
 
     ghost text = { span_text };
 
@@ -183,26 +171,28 @@ impl Printed for Span {
 
     ghost same = { λ x y e. ap years_text e };
 
-    fn most() -> usize {
-        Self::LONGEST
-    }
-
     fn text_len(&self) -> usize {
         if self.has_years() {
-            year_len(self.first) + 1 + year_len(self.last)
+            number_len(self.first) + 1 + number_len(self.last)
         } else {
             0
         }
     }
 
-    fn write(&self, out: &mut [u8], at: usize) -> Result<usize, OutputShort> {
-        // Measured first, since a text without room leaves the output as it was.
-        if !has_room(out, at, self.text_len()) {
-            return Err(OutputShort);
-        }
+    fn write(&self, out: &mut [u8], at: usize) -> Result<usize, OutputRefusal> {
         if !self.has_years() {
-            return Ok(at);
+            return put_bytes(out, at, b"");
         }
-        self.put_years(out, at)
+        let mut first = Buffer::new();
+        let mut last = Buffer::new();
+        put_pieces(
+            out,
+            at,
+            &[
+                first.format(self.first).as_bytes(),
+                b"/",
+                last.format(self.last).as_bytes(),
+            ],
+        )
     }
 }

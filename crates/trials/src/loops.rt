@@ -1,4 +1,5 @@
 // Loops in chunks, worked from their source to their total.
+use crate::rows::show;
 use job::{JobSource, LoopSource, Refusal, check};
 use total::{Count, fill_serial_totals};
 
@@ -21,10 +22,8 @@ fn rows(rt: &HostRuntime, iterations: usize, chunk: usize) -> anyhow::Result<()>
     println!(rt; "rows of {iterations} in chunks of {chunk}")?;
     for r in 0..source.len() {
         if let Some(row) = source.row(r) {
-            let kind = row.kind;
-            let size = row.size;
-            let mark = row.mark;
-            println!(rt; "  {r}: kind {kind} size {size} mark {mark}")?;
+            print!(rt; "  {r}: ")?;
+            show(rt, "", row)?;
         }
     }
     let past = source.row(source.len()).is_some();
@@ -38,8 +37,7 @@ fn worked(rt: &HostRuntime, iterations: usize, chunk: usize) -> anyhow::Result<(
     let count = source.len();
     println!(rt; "{iterations} in chunks of {chunk}: {count} rows")?;
     if let Err(refusal) = check(&source) {
-        let number = refusal.number();
-        println!(rt; "  refused {number}")?;
+        println!(rt; "  refused {}", refusal.number())?;
         return Ok(());
     }
     let mut book = Vec::new(rt.alloc());
@@ -52,8 +50,7 @@ fn worked(rt: &HostRuntime, iterations: usize, chunk: usize) -> anyhow::Result<(
     }
     let filled = fill_serial_totals(&source, &mut book).is_ok();
     if let Some(total) = book.first() {
-        let value = total.value;
-        println!(rt; "  lawful, filled {filled}, total {value}")?;
+        println!(rt; "  lawful, filled {filled}, total {}", total.value)?;
     }
     Ok(())
 }

@@ -5,6 +5,7 @@
 mod jobs;
 mod loops;
 mod reading;
+mod rows;
 mod spans;
 mod totals;
 mod writing;

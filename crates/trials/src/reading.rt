@@ -1,14 +1,9 @@
 // Job tables at the edges of the format.
+use crate::rows::show;
 use job::{Refusal, Row};
 use table::{TextFault, read_rows};
 
 const HEADER: &[u8] = b"kind,size,mark\r\n";
-
-const BLANK: Row = Row {
-    size: 0,
-    kind: 0,
-    mark: 0,
-};
 
 pub fn all(rt: &HostRuntime) -> anyhow::Result<()> {
     headers(rt)?;
@@ -24,15 +19,12 @@ pub fn all(rt: &HostRuntime) -> anyhow::Result<()> {
 
 // Prints what a whole text reads as, into a table of three rows.
 fn text(rt: &HostRuntime, name: &str, bytes: &[u8]) -> anyhow::Result<()> {
-    let mut rows = [BLANK; 3];
+    let mut rows = [Row::default(); 3];
     match read_rows(bytes, &mut rows) {
         Ok(count) => {
             println!(rt; "{name}: read {count}")?;
             for row in rows.iter().take(count) {
-                let kind = row.kind;
-                let size = row.size;
-                let mark = row.mark;
-                println!(rt; "  kind {kind} size {size} mark {mark}")?;
+                show(rt, "  ", *row)?;
             }
             Ok(())
         }
@@ -45,11 +37,12 @@ fn refused(rt: &HostRuntime, name: &str, fault: &TextFault) -> anyhow::Result<()
     let number = fault.number();
     match fault {
         TextFault::TooLong => println!(rt; "{name}: refused {number}")?,
-        TextFault::Record { line } => println!(rt; "{name}: refused {number} line {line}")?,
+        TextFault::Record { line } | TextFault::Full { line } => {
+            println!(rt; "{name}: refused {number} line {line}")?
+        }
         TextFault::Field { line, field } => println!(rt;
             "{name}: refused {number} line {line} field {field}"
         )?,
-        TextFault::Full { line } => println!(rt; "{name}: refused {number} line {line}")?,
     }
     Ok(())
 }
@@ -203,7 +196,7 @@ fn repeated(
         bytes.extend_from_slice(b"work,1,7\r\n")?;
     }
     bytes.extend_from_slice(last)?;
-    let mut rows = vec![in rt.alloc(); BLANK; room]?;
+    let mut rows = vec![in rt.alloc(); Row::default(); room]?;
     match read_rows(bytes.as_slice(), &mut rows) {
         Ok(filled) => println!(rt; "{name}: read {filled}")?,
         Err(fault) => refused(rt, name, &fault)?,

@@ -1,4 +1,5 @@
 // Spans of years: made, sealed, and totalled in a series.
+use crate::rows::{finish, task, work};
 use job::{Refusal, Row, TableSource};
 use std::io::Write;
 use table::put_total_record;
@@ -28,8 +29,7 @@ fn make(rt: &HostRuntime, name: &str, first: i32, last: i32) -> anyhow::Result<(
     match Span::from_years(first, last) {
         Ok(span) => show(rt, name, &span),
         Err(refusal) => {
-            let number = refusal.number();
-            println!(rt; "{name}: refused {number}")?;
+            println!(rt; "{name}: refused {}", refusal.number())?;
             Ok(())
         }
     }
@@ -49,10 +49,7 @@ fn made(rt: &HostRuntime) -> anyhow::Result<()> {
 
 // The span of two years, or nothing where there is none.
 fn span(first: i32, last: i32) -> Span {
-    match Span::from_years(first, last) {
-        Ok(made) => made,
-        Err(_) => Span::nothing(),
-    }
+    Span::from_years(first, last).unwrap_or(Span::nothing())
 }
 
 fn sealed(rt: &HostRuntime) -> anyhow::Result<()> {
@@ -76,22 +73,18 @@ fn joined(rt: &HostRuntime) -> anyhow::Result<()> {
     Ok(())
 }
 
-fn row(kind: u8, size: u16, mark: u8) -> Row {
-    Row { size, kind, mark }
-}
-
 // A series of two files and a loose sheet: the first file keeps under its mark, the second does not.
 fn series(rt: &HostRuntime) -> anyhow::Result<()> {
     let rows = [
-        row(1, 9, 0),
-        row(1, 3, 62),
-        row(0, 1, 0),
-        row(0, 1, 0),
-        row(2, 4, 0),
-        row(1, 3, 61),
-        row(0, 1, 0),
-        row(0, 1, 0),
-        row(0, 1, 0),
+        finish(9, 0),
+        finish(3, 62),
+        work(0),
+        work(0),
+        task(4),
+        finish(3, 61),
+        work(0),
+        work(0),
+        work(0),
     ];
     let none = Span::nothing();
     let mut book = [
@@ -107,10 +100,10 @@ fn series(rt: &HostRuntime) -> anyhow::Result<()> {
     ];
     let filled = fill_serial_totals(&TableSource { table: &rows }, &mut book).is_ok();
     println!(rt; "series filled: {filled}")?;
-    for r in 0..9 {
-        if rows[r].kind == 1 {
+    for (r, (row, total)) in rows.iter().zip(&book).enumerate() {
+        if row.is_finish() {
             let mut out = [46u8; 43];
-            match put_total_record(&mut out, 0, r, &book[r]) {
+            match put_total_record(&mut out, 0, r, total) {
                 Ok(end) => println!(rt; "record of {end} bytes")?,
                 Err(_) => println!(rt; "too short")?,
             }

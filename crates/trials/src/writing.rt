@@ -1,9 +1,10 @@
 // Job tables and records of run tables, written into outputs that just fit and that are one byte
 // too short.
+use crate::rows::{finish, row, work};
 use job::{JobRefusal, Refusal, Row};
 use std::io::Write;
 use table::{WriteFault, put_refused_record, put_run_header, put_total_record, write_rows};
-use total::{Count, OutputShort};
+use total::{Count, OutputRefusal};
 
 pub fn all(rt: &HostRuntime) -> anyhow::Result<()> {
     tables(rt)?;
@@ -13,18 +14,9 @@ pub fn all(rt: &HostRuntime) -> anyhow::Result<()> {
     refusals(rt)
 }
 
-fn row(kind: u8, size: u16, mark: u8) -> Row {
-    Row { size, kind, mark }
-}
-
 // Whether no byte of the output was written.
 fn untouched(out: &[u8]) -> bool {
-    for b in out {
-        if *b != 46 {
-            return false;
-        }
-    }
-    true
+    out.iter().all(|b| *b == 46)
 }
 
 // Prints what is written of the rows into an output of this size, all dots before.
@@ -51,7 +43,7 @@ fn table(rt: &HostRuntime, name: &str, rows: &[Row], size: usize) -> anyhow::Res
 }
 
 fn tables(rt: &HostRuntime) -> anyhow::Result<()> {
-    let rows = [row(1, 3, 0), row(2, 1024, 255), row(0, 1, 9)];
+    let rows = [finish(3, 0), row(2, 1024, 255), work(9)];
     table(rt, "three rows in a longer output", &rows, 60)?;
     table(rt, "three rows in an output that fits", &rows, 54)?;
     table(rt, "three rows in an output one byte short", &rows, 53)?;
@@ -60,12 +52,12 @@ fn tables(rt: &HostRuntime) -> anyhow::Result<()> {
 }
 
 fn refused_rows(rt: &HostRuntime) -> anyhow::Result<()> {
-    table(rt, "kind 3", &[row(1, 1, 0), row(3, 1, 0)], 60)?;
-    table(rt, "size 0", &[row(1, 0, 0)], 60)?;
+    table(rt, "kind 3", &[finish(1, 0), row(3, 1, 0)], 60)?;
+    table(rt, "size 0", &[finish(0, 0)], 60)?;
     table(
         rt,
         "size 1025",
-        &[row(1, 1, 0), row(0, 1, 0), row(1, 1025, 0)],
+        &[finish(1, 0), work(0), finish(1025, 0)],
         60,
     )?;
     table(rt, "value before room", &[row(9, 0, 0)], 0)
@@ -75,7 +67,7 @@ fn refused_rows(rt: &HostRuntime) -> anyhow::Result<()> {
 fn record(
     rt: &HostRuntime,
     name: &str,
-    res: Result<usize, OutputShort>,
+    res: Result<usize, OutputRefusal>,
     out: &[u8],
 ) -> anyhow::Result<()> {
     match res {
@@ -84,7 +76,7 @@ fn record(
             rt.stdout().write_all(out)?;
             println!(rt; "")?;
         }
-        Err(OutputShort) => {
+        Err(OutputRefusal::TooShort) => {
             let kept = untouched(out);
             println!(rt; "{name}: too short, untouched {kept}")?;
         }

@@ -10,4 +10,4 @@ pub returns-in_err-out : goal.returns-in_err-out
 returns-in_err-out c = IfOk-from_err c.from_residual-in_err-out.result _ c.from_residual-in_err-out.ensures.0
 
 pub returns : goal.returns
-returns c = c.truncate.ensures.items ∙ ap (take c.lay_report-size.result) (with_items_is c.in_ok-out.out c.lay_report-size.new.out (c.lay_report-size.auto.out ∙ c.deref_mut.ensures.len)) ∙ c.lay_report-size.ensures
+returns c = c.truncate.ensures.items ∙ ap (take c.put_report-size.result) (with_items_is c.in_ok-out.out c.put_report-size.new.out (c.put_report-size.auto.out ∙ c.deref_mut.ensures.len)) ∙ c.put_report-size.ensures

@@ -9,12 +9,12 @@ loop-r-init g c =
     (sym c.requires.counted.0)
     (sofar_none g.K.Total.meaning g.K.Total.none g.K.Total.joined g.K.Total.sealed (g.S.JobSource.rows c.args.source.now) c.args.book.now)
 
-pub loop-r-preserved-in-1 : goal.loop-r-preserved-in-1
-loop-r-preserved-in-1 g c =
+pub loop-r-preserved-in-Finish-1 : goal.loop-r-preserved-in-Finish-1
+loop-r-preserved-in-Finish-1 g c =
     turn_finish g.K.Total.meaning g.K.Total.none g.K.Total.joined g.K.Total.sealed (g.S.JobSource.rows c.args.source.now) c.args.book.now c.loop-r.book c.loop-r.r c.loop-r.invariant (omega arith) (omega arith) (omega arith) c.row_at.result c.row_at.ensures (search rules) c.gather.result c.gather.ensures
 
-pub loop-r-preserved-in-2 : goal.loop-r-preserved-in-2
-loop-r-preserved-in-2 g c =
+pub loop-r-preserved-in-Async-1 : goal.loop-r-preserved-in-Async-1
+loop-r-preserved-in-Async-1 g c =
     turn_async g.K.Total.meaning g.K.Total.none g.K.Total.joined g.K.Total.sealed (g.S.JobSource.rows c.args.source.now) c.args.book.now c.loop-r.book c.loop-r.r c.loop-r.invariant (omega arith) (omega arith) (omega arith) c.row_at.result c.row_at.ensures (search rules) c.nothing.result c.nothing.ensures
 
 pub loop-r-preserved : goal.loop-r-preserved

@@ -6,7 +6,7 @@ use Rattle.job.proofs.loops.LoopSource.row_in_chunks.Goals as goal
 
 pub returns-then-place-rows-eq0 : goal.returns-then-place-rows-eq0
 returns-then-place-rows-eq0 c =
-    c.async_row.ensures
+    c.holding.ensures
     ∙ ap async_row c.held_after.ensures
     ∙ sym (row_at c.args.self.iterations c.args.self.chunk c.requires.some c.args.place c.requires.inside ∙ cond-true (eqb (c.args.place % (c.args.self.chunk + 1)) 0) _ _ (eq-eqb _ 0 c.if-place-rows-eq0.true))
 

@@ -1,0 +1,30 @@
+// Rows for the jobs that are tried.
+use job::{Kind, Row};
+
+// Prints a row's three numbers, after something on the line.
+pub fn show(rt: &HostRuntime, before: &str, row: Row) -> anyhow::Result<()> {
+    println!(rt;
+        "{before}kind {} size {} mark {}",
+        row.kind, row.size, row.mark
+    )?;
+    Ok(())
+}
+
+// A row of any kind, size and mark, lawful or not.
+pub fn row(kind: u8, size: u16, mark: u8) -> Row {
+    Row { size, kind, mark }
+}
+
+pub fn work(mark: u8) -> Row {
+    row(Kind::Work.into(), 1, mark)
+}
+
+// A finish row that counts itself and what lies inside.
+pub fn finish(size: u16, mark: u8) -> Row {
+    row(Kind::Finish.into(), size, mark)
+}
+
+// An async row that counts itself and what lies inside.
+pub fn task(size: u16) -> Row {
+    row(Kind::Async.into(), size, 0)
+}
