@@ -21,7 +21,7 @@ pub struct Progress {
 }
 
 // A board with its workers and the rows of its job.
-#[derive(Drop)]
+#[derive(Debug, Drop)]
 pub struct Tables {
     // the job, with what the rules ask of its rows
     pub job: Layout,
@@ -36,7 +36,6 @@ pub struct Tables {
 // Clauses see the board of the rules.
 impl Model for Tables {
     ghost use Rattle.std.specs.Prelude.{◌≡◌, length, map};
-    ghost use Rattle.job.specs.Layouts.{laid};
     ghost use Rattle.rules.specs.Boards.{Board};
 
     ghost Value = { Board };
@@ -44,7 +43,7 @@ impl Model for Tables {
     ghost use Rattle.board.specs.declared.tables.Progress.{Progress};
 
     ghost view = { λ t. record {
-      rows = laid t.job;
+      rows = t.job;
       workers = t.workers.items;
       tasks = map (λ (p : Progress). p.task) t.progress.items;
       lives = map (λ (p : Progress). p.live) t.progress.items;
@@ -52,7 +51,7 @@ impl Model for Tables {
       finished = t.finished;
     } };
 
-    ghost invariant = { λ t. length t.progress.items ≡ length (laid t.job) };
+    ghost invariant = { λ t. length t.progress.items ≡ length t.job };
 }
 
 impl Default for Tables {
