@@ -1,10 +1,8 @@
 -- The rows of a loop: how many there are, which stands at each place, and that they make a lawful job. Assumes nothing.
-use Rattle.std.proofs.Common.{◌≡◌, ℕ, zero, suc, ◌+◌, ◌-◌, ◌*◌, ◌/◌, ◌%◌, ◌<◌, ◌≤◌, min, true, cond, ◌&&◌, eqb, leb, [], ◌∷◌, length, Some, sym, ap, ◌∙◌, subst, le_refl, arith}
-use Rattle.std.specs.List.{slice_get}
-use Rattle.std.proofs.lemmas.Option.{slice_get-get_or}
+use Rattle.std.proofs.Common.{◌≡◌, ℕ, ◌+◌, ◌-◌, ◌*◌, ◌/◌, ◌%◌, ◌<◌, ◌≤◌, min, true, cond, ◌&&◌, eqb, leb, [], ◌∷◌, length, subst, le_refl, arith}
 use Rattle.std.proofs.lemmas.Bool.{and_parts, leb-true, cond_both}
-use Rattle.job.specs.Rows.{most_rows, blank, row}
-use Rattle.job.specs.Loops.{most_iterations, has_loop, chunk_sizes, work_row, async_row, finish_row, all_chunks, loop_rows, LoopJob, LoopLaw}
+use Rattle.job.specs.Rows.{most_rows, row}
+use Rattle.job.specs.Loops.{most_iterations, has_loop, chunk_sizes, work_row, async_row, finish_row, all_chunks, LoopJob, LoopLaw}
 use Rattle.job.proofs.ChunkJobs.{chunks_job}
 use Rattle.job.proofs.ChunkSizes.{sizes_hold, sum_sizes, few_sizes, sizes_enough, length_chunks, rounded_up, row_at_place}
 
@@ -46,14 +44,3 @@ loop_law i c =
     cond_both (has_loop i c) (finish_row (length (all_chunks i c)) ∷ all_chunks i c) [] (λ rows. 1 ≤ length rows → length rows ≤ most_rows → LoopJob rows i c)
     (λ is some few. loop_job i c is few)
     (λ is some few. absurd (omega arith))
-
--- the rows after the first
-pub later_row : (i c n : ℕ) → 0 < n → n < length (loop_rows i c) → Some (row (all_chunks i c) (n - 1)) ≡ slice_get (loop_rows i c) n
-later_row i c n later =
-    cond_both (has_loop i c) (finish_row (length (all_chunks i c)) ∷ all_chunks i c) [] (λ rows. n < length rows → Some (row (all_chunks i c) (n - 1)) ≡ slice_get rows n)
-    (λ is l. go n later l)
-    (λ is l. absurd (omega arith))
-  where
-    go : (m : ℕ) → 0 < m → m < length (finish_row (length (all_chunks i c)) ∷ all_chunks i c) → Some (row (all_chunks i c) (m - 1)) ≡ slice_get (finish_row (length (all_chunks i c)) ∷ all_chunks i c) m
-    go zero u l = absurd (omega arith)
-    go (suc m) u l = ap (λ k. Some (row (all_chunks i c) k)) (omega arith) ∙ sym (slice_get-get_or (all_chunks i c) m blank (omega arith))

@@ -65,7 +65,7 @@ fn first_is_lawful<S: JobSource>(source: &S, count: usize) -> bool
 
 // Whether a later row is lawful, by its nearest enclosing row.
 fn is_lawful<S: JobSource>(source: &S, r: usize, p: usize) -> bool
-    requires inside { (0 < r) × (r < 1024) }
+    requires later { (0 < r) × (r < 1024) }
     requires near { nearest (S.JobSource.rows source.now) r ≡ Some p }
     ensures { result ≡ lawful_row (S.JobSource.rows source.now) r }
 {
@@ -76,7 +76,8 @@ fn is_lawful<S: JobSource>(source: &S, r: usize, p: usize) -> bool
 // The nearest row that encloses r, from the table of the nearest rows before r: what has ended by
 // r is left behind, one row at a time.
 fn climb<S: JobSource>(source: &S, table: &[u16], r: usize) -> usize
-    requires inside { (0 < r) × ((r < 1024) × (r < end (S.JobSource.rows source.now) 0)) }
+    requires later { (0 < r) × (r < 1024) }
+    requires whole { r < end (S.JobSource.rows source.now) 0 }
     requires sized { length table.now ≡ 1024 }
     requires tabled { (q : ℕ) → 0 < q → q < r → nearest (S.JobSource.rows source.now) q ≡ Some (slice_index table.now q) }
     ensures { nearest (S.JobSource.rows source.now) r ≡ Some result }

@@ -23,27 +23,12 @@ module _ (rows : List Row) (i line : ℕ) (d : Row) (h : i < length rows) where
   pub first_more : bad_field (get_or rows i d) ≡ None → first_bad line (drop i rows) ≡ first_bad (line + 1) (drop (i + 1) rows)
   first_more e = first_step ∙ ap (λ o. or_fault line o (first_bad (line + 1) (drop (i + 1) rows))) e
 
--- the lengths of a row's pieces
-pub word_short : (k : ℕ) → length (kind_word k) ≤ 6
-word_short k = by_kind (eqb k 0) (eqb k 1)
-  where
-    by_kind : (s t : Bool) → length (cond s (codes "work") (cond t (codes "finish") (codes "async"))) ≤ 6
-    by_kind true t = omega arith
-    by_kind false true = omega arith
-    by_kind false false = omega arith
-
-pub length-row : (r : Row) → length (row_text r) ≡ length (kind_word r.kind) + length (decimal r.size) + length (decimal r.mark) + 4
-length-row r = simp length-append (omega arith)
-
 -- the rows that are left, one row on
 pub joined_left : (rows : List Row) (i : ℕ) (d : Row) → i < length rows → length (flat_map row_text (drop i rows)) ≡ length (row_text (get_or rows i d)) + length (flat_map row_text (drop (i + 1) rows))
 joined_left rows i d h = ap length (at_drop_more (flat_map row_text) rows i d h) ∙ length-append (row_text (get_or rows i d)) _
 
 pub fits_more : (len rest all left : ℕ) → all ≡ len + rest → len ≤ left → leb all left ≡ leb rest (left - len)
 fits_more len rest all left e h = grind (arith, nat_tests)
-
-pub laid_as : {out : List ℕ} {at : ℕ} {xs ys after : List ℕ} {end : ℕ} → xs ≡ ys → Laid out at xs after end → Laid out at ys after end
-laid_as {out} {at} {xs} {ys} {after} {end} e laid = subst (λ l. Laid out at l after end) e laid
 
 -- the rows before i, one row on
 pub joined_next : (rows : List Row) (i : ℕ) (d : Row) → i < length rows → flat_map row_text (take i rows) ++ row_text (get_or rows i d) ≡ flat_map row_text (take (i + 1) rows)

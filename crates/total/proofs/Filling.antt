@@ -91,18 +91,6 @@ module _ {K M : Type 0} (meaning : K → M) (nothing : M) (join : M → M → M)
             (or_cases (leb (length rows) k) (is_work (row rows k)) keep))
             w
 
-    pub sofar_leave : is_finish (row rows r) ≡ false → is_async (row rows r) ≡ false → Sofar book r
-    sofar_leave nf na =
-        record {
-          long = so.long;
-          totals = λ k l m y. so.totals k (later k l (λ same. both_ways (is_finish (row rows r)) nf (subst (λ j. is_finish (row rows j) ≡ true) same y))) m y;
-          nothings = λ k l m y. so.nothings k (later k l (λ same. both_ways (is_async (row rows r)) na (subst (λ j. is_async (row rows j) ≡ true) same y))) m y;
-          others = λ k d w. so.others k d (⊎_elim (λ l. inl (omega arith)) inr w);
-        }
-      where
-        later : (k : ℕ) → r ≤ k → (k ≡ r → ⊥) → r + 1 ≤ k
-        later k l ne = ⊎_elim (λ same. absurd (ne same)) (λ other. omega arith) (cases_eq k r)
-
   -- the turns of the loop, at row i - 1, by the kind of the row that was read
   module _ (book : List K) (i : ℕ) (so : Sofar book i) (some : 0 < i) (low : i ≤ length rows) (room : length rows ≤ length old) (x : Row) (is : x ≡ row rows (i - 1)) where
     here : Sofar book (i - 1 + 1)
@@ -124,9 +112,6 @@ module _ {K M : Type 0} (meaning : K → M) (nothing : M) (join : M → M → M)
         (λ y. absurd (both_ways (eqb (row rows (i - 1)).kind 1) (kind_not 1 (λ e'. omega arith)) y))
         (λ y. m)
         (kind_not 0 (λ e'. omega arith))
-
-    pub turn_work : (x.kind ≡ 1 → ⊥) → (x.kind ≡ 2 → ⊥) → Sofar book (i - 1)
-    turn_work nf na = sofar_leave book (i - 1) here (omega arith) room (kind_not 1 nf) (kind_not 2 na)
 
   pub sofar_same : (book : List K) → Sofar book 0 → (k : ℕ) (d : K) → keeps_line rows k ≡ true → get_or book k d ≡ get_or old k d
   sofar_same book so k d keep = so.others k d (inr keep)

@@ -1,5 +1,5 @@
 -- What is put into an output. Assumes nothing.
-use Rattle.std.proofs.Common.{◌≡◌, ℕ, ◌+◌, ◌<◌, ◌≤◌, cond, leb, List, [], ◌++◌, length, get_or, Bor, take, drop, Ok, Err, sym, refl, ap, ◌∙◌, ap₂, ⊎_elim, append_assoc, add-zero, add_assoc, arith, length-append, length-drop, take-append-drop, length-take}
+use Rattle.std.proofs.Common.{◌≡◌, ℕ, ◌+◌, ◌<◌, ◌≤◌, List, [], ◌++◌, length, get_or, Bor, take, drop, Ok, Err, sym, refl, ap, ◌∙◌, ap₂, ⊎_elim, append_assoc, add-zero, add_assoc, arith, length-append, length-drop, take-append-drop, length-take}
 use Rattle.std.proofs.lemmas.List.{take_at, drop_at, drop-drop, take_more, flat_map_more}
 use Rattle.std.proofs.lemmas.List.Folds.{length-flat_map-take}
 use Rattle.std.proofs.lemmas.Bool.{le-leb, lt-leb, leb-true, cond-true, cond-false, cond_both, cases_lt}
@@ -10,9 +10,6 @@ use Rattle.total.specs.Outputs.{fits, put, put_end, pieced}
 module _ (out : List ℕ) (at : ℕ) (bytes : List ℕ) where
   pub put-fits : at + length bytes ≤ length out → put out at bytes ≡ take at out ++ (bytes ++ drop (at + length bytes) out)
   put-fits h = cond-true _ _ _ (le-leb _ _ h)
-
-  pub put_short : length out < at + length bytes → put out at bytes ≡ out
-  put_short h = cond-false _ _ _ (lt-leb _ _ h)
 
   pub put_end-fits : at + length bytes ≤ length out → put_end out at bytes ≡ Ok (at + length bytes)
   put_end-fits h = cond-true _ _ _ (le-leb _ _ h)
@@ -44,10 +41,6 @@ put_none out at =
 module _ (out : List ℕ) (at : ℕ) (xs ys : List ℕ) where
   end-append : at + length xs + length ys ≡ at + length (xs ++ ys)
   end-append = rw length-append (add_assoc _ _ _)
-
-  -- writing xs and then ys ends as writing the two at once, or is refused as that is
-  pub put_end-append : put_end (put out at xs) (at + length xs) ys ≡ put_end out at (xs ++ ys)
-  put_end-append = ap₂ (λ end room. cond (leb end room) (Ok end) (Err TooShort)) end-append (length-put out at xs)
 
   -- and where all fits it writes the same
   pub put-append : at + length (xs ++ ys) ≤ length out → put (put out at xs) (at + length xs) ys ≡ put out at (xs ++ ys)
@@ -102,9 +95,6 @@ module _ (ps : List (Bor (List ℕ))) (i : ℕ) (inside : i < length ps) where
   -- the pieces before the next, and that one
   pub pieced_next : pieced (take i ps) ++ (get_or ps i no_piece).now ≡ pieced (take (i + 1) ps)
   pieced_next = flat_map_more (λ (p : Bor (List ℕ)). p.now) [] (take i ps) (get_or ps i no_piece) ∙ ap pieced (sym (take_more ps i no_piece inside))
-
-  pub pieces_more : length (pieced (take (i + 1) ps)) ≡ length (pieced (take i ps)) + length (get_or ps i no_piece).now
-  pieces_more = ap length (sym pieced_next) ∙ length-append _ _
 
   pub pieces_room : length (pieced (take i ps)) + length (get_or ps i no_piece).now ≤ length (pieced ps)
   pieces_room = length-flat_map-take (λ (p : Bor (List ℕ)). p.now) ps i no_piece inside

@@ -49,6 +49,7 @@ impl From<JobRefusal> for BookRefusal {
 // Fills in a book whose work lines hold the values of a job: each finish line gets its serial
 // total and each async line nothing. Work lines, lines past the job and, where the call is
 // refused, all lines stay the very same values. No other totals follow the rule of the serial ones.
+#[tactic(auto, using(crate::proofs::SerialLaws::serial_rule))]
 pub fn fill_serial_totals<S: JobSource, K: Total + Drop>(
     source: &S,
     book: &mut [K],
@@ -64,7 +65,7 @@ pub fn fill_serial_totals<S: JobSource, K: Total + Drop>(
         return Err(BookRefusal::Short);
     }
     check(source)?;
-    fill_lines(source, count, book);
+    fill_lines(source, book);
     Ok(())
 }
 
@@ -96,7 +97,8 @@ fn next_row(x: Row, r: usize) -> usize
 // whose finish lines after f hold the totals. Each row is visited for its own finish alone.
 fn gather<S: JobSource, K: Total + Drop>(source: &S, book: &[K], f: usize) -> K
     requires lawful { Lawful (S.JobSource.rows source.now) }
-    requires inside { (f < length (S.JobSource.rows source.now)) × (length (S.JobSource.rows source.now) ≤ length book.now) }
+    requires inside { f < length (S.JobSource.rows source.now) }
+    requires wide { length (S.JobSource.rows source.now) ≤ length book.now }
     requires finish { is_finish (row (S.JobSource.rows source.now) f) ≡ true }
     ensures { K.Total.meaning result ≡ gathered K.Total.none K.Total.joined K.Total.sealed (S.JobSource.rows source.now) (line_of K.Total.none (map K.Total.meaning book.now)) f (length (S.JobSource.rows source.now)) }
 {
@@ -113,13 +115,13 @@ fn gather<S: JobSource, K: Total + Drop>(source: &S, book: &[K], f: usize) -> K
 
 // Fills in a book whose work lines hold the values, from the last row to the first, so that the
 // totals inside a finish row stand in the book before its own is gathered.
-fn fill_lines<S: JobSource, K: Total + Drop>(source: &S, count: usize, book: &mut [K])
+fn fill_lines<S: JobSource, K: Total + Drop>(source: &S, book: &mut [K])
     requires lawful { Lawful (S.JobSource.rows source.now) }
-    requires counted { (count ≡ length (S.JobSource.rows source.now)) × (count ≤ length book.old) }
+    requires wide { length (S.JobSource.rows source.now) ≤ length book.old }
     ensures after { map K.Total.meaning book.new ≡ filled K.Total.none K.Total.joined K.Total.sealed (S.JobSource.rows source.now) (map K.Total.meaning book.old) }
     ensures same { (k : ℕ) (d : K) → keeps_line (S.JobSource.rows source.now) k ≡ true → slice_index_or book.new k d ≡ slice_index_or book.old k d }
 {
-    for r in (0..count).rev() {
+    for r in (0..source.len()).rev() {
         match row_at(source, r).kind() {
             Some(Kind::Finish) => book[r] = gather(source, book, r),
             Some(Kind::Async) => book[r] = K::nothing(),

@@ -15,12 +15,12 @@ returns-then-not-first_is_lawful-clause-result g c =
     verdict_is rows _ c.in_ok-count.ensures (Some 0)
     (unlawful_at rows 0 (omega arith) (sym c.if-not-first_is_lawful.ensures) (λ q l. absurd (omega arith)))
 
-pub climb-p-requires-clause-inside : goal.climb-p-requires-clause-inside
-climb-p-requires-clause-inside g c =
+pub climb-p-requires : goal.climb-p-requires
+climb-p-requires g c =
     let rows = g.S.JobSource.rows c.args.source.now in
     let few = counted_is (length rows) _ c.in_ok-count.ensures in
     let all = whole-end rows (sym c.if-not-first_is_lawful.ensures) in
-    (omega arith, (omega arith, omega arith))
+    record { later = (omega arith, omega arith); whole = omega arith; sized = c.loop-r.invariant.0; tabled = c.loop-r.invariant.2 }
 
 pub returns-then-not-is_lawful-clause-result : goal.returns-then-not-is_lawful-clause-result
 returns-then-not-is_lawful-clause-result g c =

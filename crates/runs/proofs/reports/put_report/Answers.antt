@@ -1,4 +1,4 @@
-use Rattle.std.proofs.Common.{◌≡◌, ◌-◌, ◌++◌, length, take, sym, ap, ◌∙◌, arith, length-take}
+use Rattle.std.proofs.Common.{◌≡◌, ◌-◌, ◌++◌, length, take, sym, ap, ◌∙◌, arith}
 use Rattle.job.specs.Refusals.{place}
 use Rattle.table.specs.RunTables.{run_header, refused_record}
 use Rattle.table.specs.Faults.{text_number, text_told}
@@ -12,12 +12,6 @@ pub slice_bounds-put_worked-end : goal.slice_bounds-put_worked-end
 slice_bounds-put_worked-end c =
     let f = read-front (read (length c.args.rows.now) c.args.text.now) c.in-Ok.count c.read_rows.new.rows c.args.rows.now c.in-Ok.ensures.result c.in-Ok.ensures.after in
     omega (arith, f.within)
-
-pub put_worked-requires : goal.put_worked-requires
-put_worked-requires c =
-    let f = read-front (read (length c.args.rows.now) c.args.text.now) c.in-Ok.count c.read_rows.new.rows c.args.rows.now c.in-Ok.ensures.result c.in-Ok.ensures.after in
-    let at = header c.args.out.now c.unwrap-at.result _ c.put_run_header.ensures.result c.unwrap-at.ensures in
-    record { room = omega (arith, at); lines = (omega (arith, length-take (c.in-Ok.count - 0) c.read_rows.new.rows), omega arith) }
 
 pub returns-in-Ok : goal.returns-in-Ok
 returns-in-Ok c =

@@ -1,13 +1,7 @@
-use Rattle.std.proofs.Common.{◌≡◌, ◌+◌, length, Ok, sym, ap, ◌∙◌, subst, subst₂, arith}
-use Rattle.runs.proofs.Totals.{Sofar, sofar_none, sofar_finish, sofar_other}
+use Rattle.std.proofs.Common.{◌+◌, Ok, sym, ap, ◌∙◌, subst₂, arith}
+use Rattle.runs.proofs.Totals.{Sofar, sofar_finish, sofar_other}
 use Rattle.runs.proofs.reports.put_totals.Goals as goal
 use Rattle.runs.proofs.reports.put_totals.Goals.{then-is_finish, else-is_finish}
-
-pub loop-r-init : goal.loop-r-init
-loop-r-init c = sofar_none c.args.rows.now c.args.book.now c.args.out.now c.args.at c.requires.room
-
-pub unwrap-place-requires : goal.unwrap-place-requires
-unwrap-place-requires c = c.put_total_record.ensures.granted (omega (arith, c.loop-r.invariant.few, c.loop-r.invariant.laid.ends))
 
 pub loop-r-preserved : goal.loop-r-preserved
 loop-r-preserved c =
@@ -17,9 +11,3 @@ loop-r-preserved c =
       | then-is_finish w ↦ sofar_finish rows book c.args.out.now c.args.at c.requires.room c.loop-r.out c.loop-r.place c.loop-r.r c.loop-r.invariant c.if-is_finish.out c.if-is_finish.place c.loop-r-test.true (omega arith) (sym c.is_finish.ensures ∙ w.if-is_finish.true) (ap Ok w.place-is ∙ sym w.unwrap-place.ensures ∙ w.put_total_record.ensures.result) (w.out-is ∙ w.put_total_record.ensures.after)
       | else-is_finish w ↦ subst₂ (λ o p. Sofar rows book c.args.out.now c.args.at o p (c.loop-r.r + 1)) (sym w.out-is) (sym w.place-is) (sofar_other rows book c.args.out.now c.args.at c.requires.room c.loop-r.out c.loop-r.place c.loop-r.r c.loop-r.invariant (sym c.is_finish.ensures ∙ w.if-is_finish.false))
     ]
-
-pub returns : goal.returns
-returns c =
-    let done : c.loop-r.r ≡ length c.args.rows.now = omega arith in
-    let all = subst (Sofar c.args.rows.now c.args.book.now c.args.out.now c.args.at c.loop-r.out c.loop-r.place) done c.loop-r.invariant in
-    record { place = all.laid.ends; after = all.laid.is; fits = omega (arith, all.laid.ends, all.few) }

@@ -1,13 +1,6 @@
-use Rattle.std.proofs.Common.{◌≡◌, sym, subst, arith, rules}
-use Rattle.total.proofs.Filling.{Sofar, sofar_none, turn_finish, turn_async, turn_work, sofar_same, sofar_all}
+use Rattle.std.proofs.Common.{◌≡◌, subst, arith, rules}
+use Rattle.total.proofs.Filling.{Sofar, turn_finish, turn_async, sofar_same, sofar_all}
 use Rattle.total.proofs.book.fill_lines.Goals as goal
-
-pub loop-r-init : goal.loop-r-init
-loop-r-init g c =
-    subst
-    (Sofar g.K.Total.meaning g.K.Total.none g.K.Total.joined g.K.Total.sealed (g.S.JobSource.rows c.args.source.now) c.args.book.now c.args.book.now)
-    (sym c.requires.counted.0)
-    (sofar_none g.K.Total.meaning g.K.Total.none g.K.Total.joined g.K.Total.sealed (g.S.JobSource.rows c.args.source.now) c.args.book.now)
 
 pub loop-r-preserved-in-Finish-1 : goal.loop-r-preserved-in-Finish-1
 loop-r-preserved-in-Finish-1 g c =
@@ -16,10 +9,6 @@ loop-r-preserved-in-Finish-1 g c =
 pub loop-r-preserved-in-Async-1 : goal.loop-r-preserved-in-Async-1
 loop-r-preserved-in-Async-1 g c =
     turn_async g.K.Total.meaning g.K.Total.none g.K.Total.joined g.K.Total.sealed (g.S.JobSource.rows c.args.source.now) c.args.book.now c.loop-r.book c.loop-r.r c.loop-r.invariant (omega arith) (omega arith) (omega arith) c.row_at.result c.row_at.ensures (search rules) c.nothing.result c.nothing.ensures
-
-pub loop-r-preserved : goal.loop-r-preserved
-loop-r-preserved g c =
-    turn_work g.K.Total.meaning g.K.Total.none g.K.Total.joined g.K.Total.sealed (g.S.JobSource.rows c.args.source.now) c.args.book.now c.loop-r.book c.loop-r.r c.loop-r.invariant (omega arith) (omega arith) (omega arith) c.row_at.result c.row_at.ensures (search rules) (search rules)
 
 pub returns : goal.returns
 returns g c =

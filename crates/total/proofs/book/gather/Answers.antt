@@ -15,15 +15,15 @@ loop-r-init g c =
     let rows = g.S.JobSource.rows c.args.source.now in
     let book = map g.K.Total.meaning c.args.book.now in
     let f = c.args.f in (
-      at_start rows c.requires.lawful f c.requires.inside.0 c.requires.finish,
+      at_start rows c.requires.lawful f c.requires.inside c.requires.finish,
       ap (λ (x : Row). f + x.size) c.row_at.ensures,
-      c.nothing-sum.ensures ∙ sym (sum_start rows c.requires.lawful f c.requires.inside.0 c.requires.finish g.K.Total.none g.K.Total.joined g.K.Total.sealed (line_of g.K.Total.none book)),
+      c.nothing-sum.ensures ∙ sym (sum_start rows c.requires.lawful f c.requires.inside c.requires.finish g.K.Total.none g.K.Total.joined g.K.Total.sealed (line_of g.K.Total.none book)),
     )
 
 -- the walk stays inside the job
 below : (g : given.Over) (c : After-row_at-x g) → c.loop-r.r < length (g.S.JobSource.rows c.args.source.now)
 below g c =
-    let short = ends_in_job (g.S.JobSource.rows c.args.source.now) c.requires.lawful c.args.f c.requires.inside.0 in
+    let short = ends_in_job (g.S.JobSource.rows c.args.source.now) c.requires.lawful c.args.f c.requires.inside in
     omega (arith, c.loop-r.invariant.1)
 
 pub offset_bounds-book-r : goal.offset_bounds-book-r
@@ -35,7 +35,7 @@ bounds-book-r g c = let l = below g c in omega arith
 pub next_row-r-requires : goal.next_row-r-requires
 next_row-r-requires g c = let l = below g (goal.at.next_row-r-requires g c).After-row_at-x in omega (arith, c.requires.lawful.few)
 
-turned : (g : given.Over) (c : After-next_row-r g) → Turn (g.S.JobSource.rows c.args.source.now) c.requires.lawful c.args.f c.requires.inside.0 c.requires.finish g.K.Total.none g.K.Total.joined g.K.Total.sealed (line_of g.K.Total.none (map g.K.Total.meaning c.args.book.now)) c.loop-r.r c.next_row-r.result
+turned : (g : given.Over) (c : After-next_row-r g) → Turn (g.S.JobSource.rows c.args.source.now) c.requires.lawful c.args.f c.requires.inside c.requires.finish g.K.Total.none g.K.Total.joined g.K.Total.sealed (line_of g.K.Total.none (map g.K.Total.meaning c.args.book.now)) c.loop-r.r c.next_row-r.result
 turned g c =
     let rows = g.S.JobSource.rows c.args.source.now in
     let r = c.loop-r.r in
@@ -43,9 +43,9 @@ turned g c =
     let f = c.args.f in
     let line = line_of g.K.Total.none (map g.K.Total.meaning c.args.book.now) in
     subst
-    (Turn rows law f c.requires.inside.0 c.requires.finish g.K.Total.none g.K.Total.joined g.K.Total.sealed line r)
+    (Turn rows law f c.requires.inside c.requires.finish g.K.Total.none g.K.Total.joined g.K.Total.sealed line r)
     (ap (λ (x : Row). cond (is_finish x) (r + x.size) (r + 1)) (sym c.row_at-x.ensures) ∙ sym c.next_row-r.ensures)
-    (turn rows law f c.requires.inside.0 c.requires.finish g.K.Total.none g.K.Total.joined g.K.Total.sealed line r c.loop-r.invariant.0 (omega (arith, c.loop-r.invariant.1)) (ends_in_job rows law f c.requires.inside.0))
+    (turn rows law f c.requires.inside c.requires.finish g.K.Total.none g.K.Total.joined g.K.Total.sealed line r c.loop-r.invariant.0 (omega (arith, c.loop-r.invariant.1)) (ends_in_job rows law f c.requires.inside))
 
 -- the line that the code reads is the line of the book of meanings
 line_read : (g : given.Over) (c : After-next_row-r g) → g.K.Total.meaning c.index-book-r.result ≡ line_of g.K.Total.none (map g.K.Total.meaning c.args.book.now) c.loop-r.r
@@ -73,9 +73,9 @@ loop-r-preserved g c =
 pub returns : goal.returns
 returns g c =
     let rows = g.S.JobSource.rows c.args.source.now in
-    let short = ends_in_job rows c.requires.lawful c.args.f c.requires.inside.0 in
+    let short = ends_in_job rows c.requires.lawful c.args.f c.requires.inside in
     let done : c.loop-r.r ≡ end rows c.args.f = omega (arith, c.loop-r.invariant.1, c.loop-r.invariant.0.within) in
     let line = line_of g.K.Total.none (map g.K.Total.meaning c.args.book.now) in
     c.loop-r.invariant.2
     ∙ ap (gathered g.K.Total.none g.K.Total.joined g.K.Total.sealed rows line c.args.f) done
-    ∙ sym (sum_all rows c.requires.lawful c.args.f c.requires.inside.0 c.requires.finish g.K.Total.none g.K.Total.joined g.K.Total.sealed line short)
+    ∙ sym (sum_all rows c.requires.lawful c.args.f c.requires.inside c.requires.finish g.K.Total.none g.K.Total.joined g.K.Total.sealed line short)
