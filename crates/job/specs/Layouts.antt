@@ -1,4 +1,4 @@
--- What a job that is laid out holds. Assumes nothing.
+-- Which rows are laid out once a job was to be. Assumes nothing.
 --     laid_after answer new old  the rows after a job was to be laid out: the new ones, or the old where it was refused
 use Rattle.std.specs.Prelude.{List, Ok, Err, Result}
 use Rattle.job.specs.declared.row.Row.{Row}
