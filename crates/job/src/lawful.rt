@@ -11,6 +11,7 @@ use crate::source::JobSource;
 pub const MOST_ROWS: usize = 1024;
 
 // Checks a job: refused where it has no rows or too many, or by its lowest unlawful row.
+#[tactic(auto, using(crate::proofs::Nests::judged))]
 pub fn check<S: JobSource>(source: &S) -> Result<(), JobRefusal>
     ensures result { result ≡ checked (S.JobSource.rows source.now) }
     ensures judged { Judged (S.JobSource.rows source.now) result }
@@ -64,6 +65,7 @@ fn first_is_lawful<S: JobSource>(source: &S, count: usize) -> bool
 }
 
 // Whether a later row is lawful, by its nearest enclosing row.
+#[tactic(auto, using(crate::proofs::Climbing::lower))]
 fn is_lawful<S: JobSource>(source: &S, r: usize, p: usize) -> bool
     requires later { (0 < r) × (r < 1024) }
     requires near { nearest (S.JobSource.rows source.now) r ≡ Some p }
@@ -90,6 +92,7 @@ fn climb<S: JobSource>(source: &S, table: &[u16], r: usize) -> usize
 }
 
 // Where row r ends.
+#[tactic(auto, unfolding(crate::specs::Rows::end))]
 fn end_at<S: JobSource>(source: &S, r: usize) -> usize
     requires { r < 1024 }
     ensures { result ≡ end (S.JobSource.rows source.now) r }

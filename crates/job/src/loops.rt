@@ -20,6 +20,7 @@ pub struct LoopSource {
 
 impl LoopSource {
     // The loop of so many iterations, in chunks of so many.
+    #[tactic(auto, using(crate::proofs::LoopLaw::loop_law))]
     pub fn new(iterations: usize, chunk: usize) -> LoopSource
         ensures rows { source_rows result ≡ loop_rows iterations chunk }
         ensures law { LoopLaw iterations chunk }
@@ -35,6 +36,7 @@ impl LoopSource {
     }
 
     // How many rows the chunks have: one for each chunk, and one for each iteration.
+    #[tactic(auto, using(crate::proofs::LoopLaw::length_all, crate::proofs::LoopLaw::few_all))]
     fn rows_in_chunks(self) -> usize
         requires { has_loop self.iterations self.chunk ≡ true }
         ensures count { result ≡ length (all_chunks self.iterations self.chunk) }
@@ -52,6 +54,7 @@ impl LoopSource {
 
     // The row at a place among those of the chunks. All chunks but the last have as many rows, so
     // that a division finds the chunk.
+    #[tactic(auto, using(crate::proofs::LoopLaw::row_at))]
     fn row_in_chunks(self, place: usize) -> Row
         requires some { has_loop self.iterations self.chunk ≡ true }
         requires inside { place < length (all_chunks self.iterations self.chunk) }

@@ -34,6 +34,7 @@ impl Total for Count {
         Count { value: 0 }
     }
 
+    #[tactic(auto, using(crate::specs::Numbers::same_number))]
     fn join(&self, other: &Count) -> Count {
         Count {
             value: self.value.wrapping_add(other.value),

@@ -54,6 +54,7 @@ pub fn put_bytes(out: &mut [u8], at: usize, bytes: &[u8]) -> Result<usize, Outpu
 
 // Whether the pieces have room in an output of this size from `at` on. What is left is counted
 // down, since their bytes may be more than a number holds.
+#[tactic(auto, using(crate::proofs::Outputs::pieces_room))]
 fn pieces_fit(size: usize, at: usize, pieces: &[&[u8]]) -> bool
     ensures { result ≡ nat_le (at + length (pieced pieces.now)) size }
 {

@@ -1,9 +1,10 @@
 use Rattle.std.proofs.Common.{◌+◌, ◌≤◌, ◌++◌, length, get_or, take, codes, sym, ap, ◌∙◌, subst, append_assoc, arith, length-append}
 use Rattle.std.proofs.lemmas.Bool.{leb-true}
 use Rattle.std.specs.List.{flat_map}
+use Rattle.std.proofs.lemmas.List.Folds.{length-flat_map-take}
 use Rattle.total.proofs.Outputs.{Laid, laid_room, laid_more, put_end-room}
 use Rattle.table.specs.JobTexts.{row_text}
-use Rattle.table.proofs.Pieces.{no_row, joined_next, row_room}
+use Rattle.table.proofs.Pieces.{no_row, joined_next}
 use Rattle.table.proofs.write.put_table.Goals as goal
 use Rattle.table.proofs.write.put_table.Goals.{After-put_row}
 
@@ -20,7 +21,7 @@ room c =
       length-append (header ++ before) (row_text (get_or rows i no_row)),
       length-append header before,
       length-append header (flat_map row_text rows),
-      row_room rows i no_row c.loop-row-test.true,
+      length-flat_map-take row_text rows i no_row c.loop-row-test.true,
     )
 
 pub returns-in_err-at-2 : goal.returns-in_err-at-2
@@ -35,4 +36,4 @@ loop-row-preserved c =
     let row = row_text (get_or rows i no_row) in
     let more = laid_more c.loop-row.invariant row (room (goal.at.loop-row-preserved c).After-put_row) c.put_row.new.out c.in_ok-at-2.at c.in_ok-at-2.ensures.result c.in_ok-at-2.ensures.after in
     subst (λ xs. Laid c.args.out.now 0 xs c.put_row.new.out c.in_ok-at-2.at)
-    (append_assoc (codes "kind,size,mark\r\n") (flat_map row_text (take i rows)) row ∙ ap (λ xs. codes "kind,size,mark\r\n" ++ xs) (joined_next rows i no_row c.loop-row-test.true)) more
+    (append_assoc (codes "kind,size,mark\r\n") (flat_map row_text (take i rows)) row ∙ ap (λ xs. codes "kind,size,mark\r\n" ++ xs) (joined_next rows i c.loop-row-test.true)) more
