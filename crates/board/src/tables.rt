@@ -79,7 +79,8 @@ impl Tables {
         }
     }
 
-    // What worker w does.
+    // What worker w does. Each call on a worker asks that there is one: a type for such a number
+    // would have to name the board that it counts on.
     pub fn state(&self, w: usize) -> WorkerState
         requires { w < length self.now.workers }
         ensures { result ≡ (worker self.now w).state }

@@ -19,7 +19,8 @@ pub enum PushError {
 }
 
 // A deque: its owner puts rows to its bottom and takes them from there, and others take from its
-// top. The rows lie in a ring of slots, the bottom first.
+// top. The rows lie in a ring of slots, the bottom first: an `ArrayVec` would move all of them at
+// each push to the bottom.
 #[derive(Clone, Debug, Drop)]
 pub struct Deque {
     slots: [u16; ROOM],
