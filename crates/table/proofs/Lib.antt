@@ -1,9 +1,10 @@
-mod Ends
 mod Examples
 mod Fronts
 mod Numbers
 mod Pieces
+mod Progress
 mod Quotes
+mod Results
 mod RoundTrip
 mod Scans
 mod Shapes

@@ -1,33 +1,34 @@
 // The fields of a text after RFC 4180, read in place: no byte is copied, and a doubled quote stays
 // doubled in what is read.
-ghost use Rattle.std.specs.Prelude.{◌≡◌, ◌<◌, ◌≤◌, length, drop, IfOk, MatchOption};
-ghost use Rattle.table.specs.Fields.{breaks, ends, field, onward, Mode.Plain, Mode.Quoted};
-ghost use Rattle.table.specs.Readings.{Onward, FoundOnward, placed, taken, or_quotes, following, found};
+ghost use Rattle.std.specs.Prelude.{◌≡◌};
+ghost use Rattle.std.specs.Option.{option_map, ok_or};
+ghost use Rattle.table.specs.Fields.{ends, field, onward, Mode.Plain, Mode.Quoted};
+ghost use Rattle.table.specs.Readings.{ok_map, as_end, as_cut, following};
 
 // What ends a field.
-#[derive(Clone, Copy)]
+#[derive(Clone, Copy, PartialEq, Eq, Debug)]
 pub enum Stop {
     Comma,
     LineEnd,
     TextEnd,
 }
 
-// What ended a field, and where the text goes on after that.
+// The end of a field: what ends it, and the text after that.
 #[derive(Clone, Copy)]
-pub struct Place {
-    pub at: usize,
+pub struct End<'a> {
     pub stop: Stop,
+    pub rest: &'a [u8],
 }
 
-// A field: its bytes as written, without the outer quotes, and its end.
+// A field cut off the front of a text: its bytes as written, without the outer quotes, and its end.
 #[derive(Clone, Copy)]
 pub struct Field<'a> {
     pub raw: &'a [u8],
-    pub after: Place,
+    pub end: End<'a>,
 }
 
 // What is wrong with a field.
-#[derive(Clone, Copy)]
+#[derive(Clone, Copy, PartialEq, Eq, Debug)]
 pub enum FieldFault {
     // its quotes are against RFC 4180
     Quotes,
@@ -35,112 +36,80 @@ pub enum FieldFault {
     Value(u8),
 }
 
-// Whether CR LF stands at this place.
-fn breaks_at(text: &[u8], at: usize) -> bool
-    requires { at < length text.now }
-    ensures { result ≡ breaks (drop at text.now) }
+// The end of a field, if one stands at the front of the text.
+fn read_end(text: &[u8]) -> Option<End<'_>>
+    ensures { option_map as_end result ≡ ends text.now }
 {
-    if at + 1 >= text.len() {
-        return false;
-    }
-    text[at] == b'\r' && text[at + 1] == b'\n'
+    let (stop, rest) = match text {
+        [] => (Stop::TextEnd, text),
+        [b',', rest @ ..] => (Stop::Comma, rest),
+        [b'\r', b'\n', rest @ ..] => (Stop::LineEnd, rest),
+        _ => return None,
+    };
+    Some(End { stop, rest })
 }
 
-// The end of a field, if it stands at this place.
-fn end_at(text: &[u8], at: usize) -> Option<Place>
-    requires { at ≤ length text.now }
-    ensures means { placed text.now result ≡ ends (drop at text.now) }
-    ensures moves { MatchOption result (at < length text.now) (λ p. Onward at (length text.now) p.at) }
+// The field without quotes at the front of the text.
+fn plain_field(text: &[u8]) -> Result<Field<'_>, FieldFault>
+    ensures { ok_map as_cut result ≡ ok_or (onward Plain text.now) FieldFault.Quotes }
 {
-    if at >= text.len() {
-        Some(Place {
-            at,
+    for (len, b) in text.iter().enumerate() {
+        let (raw, left) = text.split_at(len);
+        if let Some(end) = read_end(left) {
+            return Ok(Field { raw, end });
+        }
+        if *b == b'"' {
+            return Err(FieldFault::Quotes);
+        }
+    }
+    Ok(Field {
+        raw: text,
+        end: End {
             stop: Stop::TextEnd,
-        })
-    } else if text[at] == b',' {
-        Some(Place {
-            at: at + 1,
-            stop: Stop::Comma,
-        })
-    } else if breaks_at(text, at) {
-        Some(Place {
-            at: at + 2,
-            stop: Stop::LineEnd,
-        })
-    } else {
-        None
-    }
+            rest: &[],
+        },
+    })
 }
 
-// The field without quotes that starts here.
-fn plain_field(text: &[u8], start: usize) -> Result<Field<'_>, FieldFault>
-    requires { start ≤ length text.now }
-    ensures means { taken text.now result ≡ or_quotes (onward Plain (drop start text.now)) }
-    ensures moves { IfOk result (λ f. Onward start (length text.now) f.after.at) }
+// The field in quotes whose opening quote stands just before the text.
+fn quoted_field(text: &[u8]) -> Result<Field<'_>, FieldFault>
+    ensures { ok_map as_cut result ≡ ok_or (onward Quoted text.now) FieldFault.Quotes }
 {
-    let mut i = start;
-    loop {
-        if let Some(after) = end_at(text, i) {
-            return Ok(Field {
-                raw: &text[start..i],
-                after,
-            });
-        }
-        if text[i] == b'"' {
+    let mut left = text;
+    while let [b, rest @ ..] = left {
+        if *b != b'"' {
+            left = rest;
+        } else if let [b'"', more @ ..] = rest {
+            // the two quotes stand for one
+            left = more;
+        } else if let Some(end) = read_end(rest) {
+            let raw = &text[..text.len() - left.len()];
+            return Ok(Field { raw, end });
+        } else {
             return Err(FieldFault::Quotes);
         }
-        i += 1;
-    }
-}
-
-// The field in quotes whose opening quote stands just before.
-fn quoted_field(text: &[u8], start: usize) -> Result<Field<'_>, FieldFault>
-    requires { start ≤ length text.now }
-    ensures means { taken text.now result ≡ or_quotes (onward Quoted (drop start text.now)) }
-    ensures moves { IfOk result (λ f. Onward start (length text.now) f.after.at) }
-{
-    let mut i = start;
-    while i < text.len() {
-        if text[i] != b'"' {
-            i += 1;
-            continue;
-        }
-        if let Some(after) = end_at(text, i + 1) {
-            return Ok(Field {
-                raw: &text[start..i],
-                after,
-            });
-        }
-        // A quote that does not close the field is the first of two.
-        if text[i + 1] != b'"' {
-            return Err(FieldFault::Quotes);
-        }
-        i += 2;
     }
     Err(FieldFault::Quotes)
 }
 
-// The field that starts here.
-fn field_at(text: &[u8], at: usize) -> Result<Field<'_>, FieldFault>
-    requires { at ≤ length text.now }
-    ensures means { taken text.now result ≡ or_quotes (field (drop at text.now)) }
-    ensures moves { IfOk result (λ f. Onward at (length text.now) f.after.at) }
+// The field at the front of the text.
+pub fn read_field(text: &[u8]) -> Result<Field<'_>, FieldFault>
+    ensures { ok_map as_cut result ≡ ok_or (field text.now) FieldFault.Quotes }
 {
-    if at < text.len() && text[at] == b'"' {
-        quoted_field(text, at + 1)
-    } else {
-        plain_field(text, at)
+    match text {
+        [b'"', rest @ ..] => quoted_field(rest),
+        _ => plain_field(text),
     }
 }
 
-// The next field of the record, or none where the record has ended.
-pub fn next_field(text: &[u8], place: Place) -> Result<Option<Field<'_>>, FieldFault>
-    requires { place.at ≤ length text.now }
-    ensures means { found text.now result ≡ following place.stop (drop place.at text.now) }
-    ensures moves { FoundOnward place.at (length text.now) result }
-{
-    let Stop::Comma = place.stop else {
-        return Ok(None);
-    };
-    Ok(Some(field_at(text, place.at)?))
+impl<'a> End<'a> {
+    // The next field of the record, or none where the record has ended.
+    pub fn next_field(self) -> Result<Option<Field<'a>>, FieldFault>
+        ensures { ok_map (option_map as_cut) result ≡ following self.entry.stop self.entry.rest.now }
+    {
+        let Stop::Comma = self.stop else {
+            return Ok(None);
+        };
+        Ok(Some(read_field(self.rest)?))
+    }
 }

@@ -1,15 +1,17 @@
 // The records of a job table.
-ghost use Rattle.std.specs.Prelude.{◌≡◌, ◌≤◌, length, drop, IfOk};
-ghost use Rattle.table.specs.Values.{kind_of, size_of, mark_of};
+ghost use Rattle.std.specs.Prelude.{◌≡◌, length};
+ghost use Rattle.std.specs.Option.{ok_or};
+ghost use Rattle.std.specs.Iterator.{at_most};
 ghost use Rattle.table.specs.Records.{three, combined, front, header, is_header};
-ghost use Rattle.table.specs.Readings.{Onward, of_field, taken_three, or_shape, taken_front, taken_rest};
+ghost use Rattle.table.specs.Values.{kind_of, size_of, mark_of};
+ghost use Rattle.table.specs.Readings.{ok_map, of_field, as_three, as_front, text_left, GivesNext};
 
-use crate::field::{FieldFault, Place, Stop, next_field};
+use crate::field::{FieldFault, Stop, read_field};
 use crate::value::{read_kind, read_mark, read_size};
 use job::Row;
 
 // What is wrong with a record.
-#[derive(Clone, Copy)]
+#[derive(Clone, Copy, PartialEq, Eq, Debug)]
 pub enum RecordFault {
     // not three fields, or quotes against RFC 4180
     Shape,
@@ -28,100 +30,121 @@ impl From<FieldFault> for RecordFault {
     }
 }
 
-// The three fields of a record as written, and where the text goes on after them.
+// A record cut off the front of a text: its three fields as written, and the text after it.
 #[derive(Clone, Copy)]
-pub struct Cells<'a> {
-    pub kind: &'a [u8],
-    pub size: &'a [u8],
-    pub mark: &'a [u8],
-    pub next: usize,
+struct Record<'a> {
+    kind: &'a [u8],
+    size: &'a [u8],
+    mark: &'a [u8],
+    rest: &'a [u8],
 }
 
-fn cells_at(text: &[u8], at: usize) -> Result<Cells<'_>, RecordFault>
-    requires { at ≤ length text.now }
-    ensures means { taken_three text.now result ≡ or_shape (three (drop at text.now)) }
-    ensures moves { IfOk result (λ c. Onward at (length text.now) c.next) }
+// The record at the front of the text.
+fn read_record(text: &[u8]) -> Result<Record<'_>, RecordFault>
+    ensures { ok_map as_three result ≡ ok_or (three text.now) RecordFault.Shape }
 {
-    let Some(kind) = next_field(
-        text,
-        Place {
-            at,
-            stop: Stop::Comma,
-        },
-    )?
-    else {
+    let kind = read_field(text)?;
+    let Some(size) = kind.end.next_field()? else {
         return Err(RecordFault::Shape);
     };
-    let Some(size) = next_field(text, kind.after)? else {
+    let Some(mark) = size.end.next_field()? else {
         return Err(RecordFault::Shape);
     };
-    let Some(mark) = next_field(text, size.after)? else {
+    let (Stop::LineEnd | Stop::TextEnd) = mark.end.stop else {
         return Err(RecordFault::Shape);
     };
-    let (Stop::LineEnd | Stop::TextEnd) = mark.after.stop else {
-        return Err(RecordFault::Shape);
-    };
-    Ok(Cells {
+    Ok(Record {
         kind: kind.raw,
         size: size.raw,
         mark: mark.raw,
-        next: mark.after.at,
+        rest: mark.end.rest,
     })
 }
 
-fn row_of(kind: &[u8], size: &[u8], mark: &[u8]) -> Result<Row, RecordFault>
-    ensures { result ≡ combined (kind_of kind.now) (size_of size.now) (mark_of mark.now) }
-{
-    let kind = read_kind(kind, 1)?;
-    let size = read_size(size, 2)?;
-    let mark = read_mark(mark, 3)?;
-    Ok(Row { size, kind, mark })
-}
-
-// A row, and where the text goes on after its record.
-#[derive(Clone, Copy)]
-pub struct Entry {
-    pub row: Row,
-    pub next: usize,
-}
-
-// The row of the record that starts here.
-pub fn entry_at(text: &[u8], at: usize) -> Result<Entry, RecordFault>
-    requires { at ≤ length text.now }
-    ensures means { taken_front text.now result ≡ front (drop at text.now) }
-    ensures moves { IfOk result (λ e. Onward at (length text.now) e.next) }
-{
-    let cells = cells_at(text, at)?;
-    let row = row_of(cells.kind, cells.size, cells.mark)?;
-    Ok(Entry {
-        row,
-        next: cells.next,
-    })
-}
-
-fn is_header(kind: &[u8], size: &[u8], mark: &[u8]) -> bool
-    ensures { result ≡ is_header kind.now size.now mark.now }
-{
-    let b"kind" = kind else {
-        return false;
-    };
-    let b"size" = size else {
-        return false;
-    };
-    let b"mark" = mark else {
-        return false;
-    };
-    true
-}
-
-// Where the text goes on after its header.
-pub fn header_end(text: &[u8]) -> Result<usize, RecordFault>
-    ensures means { taken_rest text.now result ≡ header text.now }
-    ensures within { IfOk result (λ at. at ≤ length text.now) }
-{
-    let cells = cells_at(text, 0)?;
-    if !is_header(cells.kind, cells.size, cells.mark) {
-        return Err(RecordFault::Shape);
+impl Record<'_> {
+    // The row that the fields mean.
+    fn row(&self) -> Result<Row, RecordFault>
+        ensures { result ≡ combined (kind_of self.now.kind.now) (size_of self.now.size.now)
+            (mark_of self.now.mark.now) }
+    {
+        let kind = read_kind(self.kind).ok_or(FieldFault::Value(1))?;
+        let size = read_size(self.size).ok_or(FieldFault::Value(2))?;
+        let mark = read_mark(self.mark).ok_or(FieldFault::Value(3))?;
+        Ok(Row {
+            size,
+            kind: u8::from(kind),
+            mark,
+        })
     }
-    Ok(cells.next)
+
+    // Whether the fields are the header's words.
+    fn is_header(&self) -> bool
+        ensures { result ≡ is_header self.now.kind.now self.now.size.now self.now.mark.now }
+    {
+        matches!(
+            (self.kind, self.size, self.mark),
+            (b"kind", b"size", b"mark")
+        )
+    }
+}
+
+// The row of a record, and the text after it.
+#[derive(Clone, Copy)]
+pub struct Entry<'a> {
+    pub row: Row,
+    pub rest: &'a [u8],
+}
+
+// The row of the record at the front of the text.
+pub fn read_entry(text: &[u8]) -> Result<Entry<'_>, RecordFault>
+    ensures { ok_map as_front result ≡ front text.now }
+{
+    let record = read_record(text)?;
+    Ok(Entry {
+        row: record.row()?,
+        rest: record.rest,
+    })
+}
+
+// The records below the header of a text, up to the first fault.
+#[derive(Drop)]
+pub struct Records<'a> {
+    rest: &'a [u8],
+}
+
+impl<'a> Records<'a> {
+    // Reads the header.
+    pub fn new(text: &'a [u8]) -> Result<Records<'a>, RecordFault>
+        ensures { ok_map text_left result ≡ header text.now }
+    {
+        let header = read_record(text)?;
+        if !header.is_header() {
+            return Err(RecordFault::Shape);
+        }
+        Ok(Records { rest: header.rest })
+    }
+}
+
+impl Iterator for Records<'_> {
+    type Item = Result<Row, RecordFault>;
+
+    ghost next_gives = { GivesNext };
+
+    ghost remaining = { λ records. at_most (length (text_left records)) };
+
+    fn next(&mut self) -> Option<Result<Row, RecordFault>> {
+        if self.rest.is_empty() {
+            return None;
+        }
+        match read_entry(self.rest) {
+            Ok(entry) => {
+                self.rest = entry.rest;
+                Some(Ok(entry.row))
+            }
+            Err(fault) => {
+                self.rest = &[];
+                Some(Err(fault))
+            }
+        }
+    }
 }

@@ -1,10 +1,10 @@
 // Whole job tables.
-ghost use Rattle.std.specs.Prelude.{◌≡◌, true, length, is_ok};
+ghost use Rattle.std.specs.Prelude.{◌≡◌, length, IsOk};
 ghost use Rattle.table.specs.Faults.{text_number, text_told};
 ghost use Rattle.table.specs.Laws.{ReadsWritings};
 ghost use Rattle.table.specs.Texts.{at_line, read, counted, written};
 
-use crate::record::{RecordFault, entry_at, header_end};
+use crate::record::{RecordFault, Records};
 use job::{Refusal, Row};
 
 // Why a text is no job table, with the line of the first bad record. Lines count records.
@@ -28,18 +28,17 @@ impl Refusal for TextFault {
     fn number(&self) -> u8 {
         match self {
             TextFault::TooLong => 14,
-            TextFault::Record { line: _ } => 15,
-            TextFault::Field { line: _, field: _ } => 16,
-            TextFault::Full { line: _ } => 17,
+            TextFault::Record { .. } => 15,
+            TextFault::Field { .. } => 16,
+            TextFault::Full { .. } => 17,
         }
     }
 
     fn place(&self) -> Option<usize> {
         match self {
             TextFault::TooLong => None,
-            TextFault::Record { line } => Some(*line),
-            TextFault::Field { line, field: _ } => Some(*line),
-            TextFault::Full { line } => Some(*line),
+            TextFault::Record { line } | TextFault::Field { line, .. } | TextFault::Full { line } =>
+                Some(*line),
         }
     }
 }
@@ -72,15 +71,13 @@ fn count_rows(text: &[u8], room: usize) -> Result<usize, TextFault>
     if text.len() > MOST_BYTES {
         return Err(TextFault::TooLong);
     }
-    let mut at = header_end(text).at_line(1)?;
     let mut count = 0;
-    while at < text.len() {
+    for record in Records::new(text).at_line(1)? {
         let line = count + 2;
-        let entry = entry_at(text, at).at_line(line)?;
+        record.at_line(line)?;
         if count >= room {
             return Err(TextFault::Full { line });
         }
-        at = entry.next;
         count += 1;
     }
     Ok(count)
@@ -88,27 +85,23 @@ fn count_rows(text: &[u8], room: usize) -> Result<usize, TextFault>
 
 // Writes the rows of a text that `count_rows` has read to the end.
 fn fill_rows(text: &[u8], rows: &mut [Row])
-    requires { is_ok (read (length rows.old) text.now) ≡ true }
+    requires { IsOk (read (length rows.old) text.now) }
     ensures { rows.new ≡ written (read (length rows.old) text.now) rows.old }
 {
-    let Ok(header) = header_end(text) else {
-        unreachable()
+    let Ok(records) = Records::new(text) else {
+        unreachable!()
     };
-    let mut at = header;
-    let mut count = 0;
-    while at < text.len() {
-        let Ok(entry) = entry_at(text, at) else {
-            unreachable()
-        };
-        rows[count] = entry.row;
-        at = entry.next;
-        count += 1;
+    // by index, since a proof knows nothing of what is written through an adapter of `iter_mut`
+    for (i, record) in records.enumerate() {
+        let Ok(row) = record else { unreachable!() };
+        rows[i] = row;
     }
 }
 
 // Fills the table from its start with the rows of the text, and answers how many there are. What
 // stands past them stays, and on a refusal all of it stays. Each writing of a table that the format
 // allows is read as the rows that it writes.
+#[tactic(auto, using(crate::proofs::RoundTrip::reads_writings))]
 pub fn read_rows(text: &[u8], rows: &mut [Row]) -> Result<usize, TextFault>
     ensures result { result ≡ counted (read (length rows.old) text.now) }
     ensures after { rows.new ≡ written (read (length rows.old) text.now) rows.old }

@@ -1,10 +1,7 @@
-use Rattle.std.proofs.Common.{◌-◌, ◌≤◌, length}
-use Rattle.table.specs.Fields.{Mode.Plain}
-use Rattle.table.proofs.Scans.{At}
+use Rattle.std.proofs.Common.{take, drop}
+use Rattle.table.specs.Fields.Mode.{Plain}
+use Rattle.table.proofs.Scans.{Partway}
 use Rattle.table.proofs.field.plain_field.Given as goal
 
-abbrev pub invariant-loop-after : goal.invariant-loop-after
-invariant-loop-after l = (l.start ≤ l.i) × (l.i ≤ length l.text) × At Plain l.text l.start l.i
-
-abbrev pub decreases-loop-after : goal.decreases-loop-after
-decreases-loop-after l = length l.text - l.i
+abbrev pub invariant-loop-len : goal.invariant-loop-len
+invariant-loop-len l = Partway Plain l.text (take l.len l.text) (drop l.len l.text)
