@@ -1,17 +1,10 @@
--- The model that a worker of a board stands for. Assumes nothing.
---     worker_view x              a worker: its queues as lists
+-- What is stolen from a worker. Assumes nothing.
 --     offers x                   the task that is stolen from a worker: the top of its preempted queue, else that of its fresh queue
 --     robbed_of x                the worker without it, where there is one
 use Rattle.std.specs.Prelude.{ℕ, Some, None, Option}
-use Rattle.deque.specs.Deques.{rows_in}
 use Rattle.deque.specs.Queues.{top, below_top}
 use Rattle.rules.specs.Boards.{Worker, to_preempted, to_fresh}
 use Rattle.rules.specs.Steps.{robbed}
-use Rattle.board.specs.declared.worker.Worker.{Worker as WorkerTable}
-
-abbrev pub worker_view : WorkerTable → Worker
-worker_view x =
-    record { state = x.state; preempted = rows_in x.preempted; fresh = rows_in x.fresh; spawns = x.spawns; steals = x.steals; policy = x.policy }
 
 abbrev pub first_of : Option ℕ → Option ℕ → Option ℕ
 first_of (Some t) o = Some t

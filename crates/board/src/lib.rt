@@ -2,7 +2,6 @@
 #![tactic(auto)]
 
 mod acts;
-mod cells;
 mod spawning;
 mod tables;
 mod worker;

@@ -1,32 +1,58 @@
 // One worker of a board.
-ghost use Rattle.std.specs.Prelude.{◌≡◌, ◌+◌, ◌^◌, ◌<◌, ◌≤◌, ◌∷◌, length};
-ghost use Rattle.deque.specs.Deques.{rows_in};
-ghost use Rattle.deque.specs.Queues.{above_bottom};
+ghost use Rattle.std.specs.Prelude.{◌≡◌, ◌<◌, ◌∷◌, length};
 ghost use Rattle.rules.specs.declared.state.WorkerState.TheVariants.{Idle, Stands};
 ghost use Rattle.rules.specs.Boards.{to_state, to_preempted, to_fresh, no_worker};
 ghost use Rattle.rules.specs.Placing.{placing, counts_spawn};
-ghost use Rattle.board.specs.Workers.{worker_view, offers, robbed_of};
+ghost use Rattle.board.specs.Workers.{offers, robbed_of};
 
 use deque::Deque;
 use rules::{Figures, Policy, Position, WorkerState};
+use std::marker::Model;
 
 // What a worker does, its two queues, its counters and its policy.
-#[derive(Clone, Copy)]
+#[derive(Clone, Debug, Drop)]
 pub struct Worker {
-    pub preempted: Deque,
-    pub fresh: Deque,
-    pub state: WorkerState,
+    preempted: Deque,
+    fresh: Deque,
+    state: WorkerState,
     // spawns since its policy was settled
-    pub spawns: u16,
+    spawns: u16,
     // tasks stolen from it since then
-    pub steals: u16,
-    pub policy: Policy,
+    steals: u16,
+    policy: Policy,
+}
+
+// Clauses see the worker of the rules.
+impl Model for Worker {
+    ghost use Rattle.rules.specs.Boards.{Worker as Dealer};
+
+    ghost Value = { Dealer };
+
+    ghost view = { λ x. record {
+      state = x.state;
+      preempted = x.preempted;
+      fresh = x.fresh;
+      spawns = x.spawns;
+      steals = x.steals;
+      policy = x.policy;
+    } };
+}
+
+impl Default for Worker {
+    ghost use Rattle.std.specs.Prelude.{◌≡◌};
+    ghost use Rattle.rules.specs.Boards.{no_worker};
+
+    ghost is_default = { λ x. x ≡ no_worker };
+
+    fn default() -> Worker {
+        Worker::new()
+    }
 }
 
 impl Worker {
     // A worker that has done nothing yet.
     pub fn new() -> Worker
-        ensures { worker_view result ≡ no_worker }
+        ensures { result ≡ no_worker }
     {
         Worker {
             preempted: Deque::new(),
@@ -40,7 +66,7 @@ impl Worker {
 
     // Begins anew, whatever it did before.
     pub fn reset(&mut self)
-        ensures { worker_view self.new ≡ no_worker }
+        ensures { self.new ≡ no_worker }
     {
         self.preempted.clear();
         self.fresh.clear();
@@ -50,9 +76,22 @@ impl Worker {
         self.policy = Policy::HelpFirst;
     }
 
+    // What it does.
+    pub fn state(&self) -> WorkerState
+        ensures { result ≡ self.now.state }
+    {
+        self.state
+    }
+
+    pub fn set_state(&mut self, state: WorkerState)
+        ensures { self.new ≡ to_state state self.old }
+    {
+        self.state = state;
+    }
+
     // How it places what it spawns: by S, else by F, else by its policy.
     pub fn placing(&self, figures: &Figures) -> Policy
-        ensures { result ≡ placing figures.now (worker_view self.now) }
+        ensures { result ≡ placing figures.now self.now }
     {
         if self.preempted.len() >= figures.stack {
             Policy::HelpFirst
@@ -66,7 +105,7 @@ impl Worker {
     // Counts a spawn. After INT of them the policy is settled by the steals since the last time.
     pub fn count_spawn(&mut self, figures: &Figures)
         requires { self.old.spawns < 1024 }
-        ensures { worker_view self.new ≡ counts_spawn figures.now (worker_view self.old) }
+        ensures { self.new ≡ counts_spawn figures.now self.old }
     {
         self.spawns += 1;
         if self.spawns as usize >= figures.interval {
@@ -82,28 +121,28 @@ impl Worker {
 
     // Goes on at a position, with a child at the bottom of the fresh queue.
     pub fn keep(&mut self, at: Position, child: u16)
-        requires { length (rows_in self.old.fresh) < 1024 }
-        ensures { worker_view self.new ≡ to_fresh (child ∷ rows_in self.old.fresh) (to_state (Stands at) (worker_view self.old)) }
+        requires { length self.old.fresh < 1024 }
+        ensures { self.new ≡ to_fresh (child ∷ self.old.fresh) (to_state (Stands at) self.old) }
     {
         self.state = WorkerState::Stands(at);
-        self.fresh.push_bottom(child);
+        self.fresh.push_bottom(child).unwrap();
     }
 
     // Leaves a task at the bottom of the preempted queue.
     pub fn park(&mut self, task: u16)
-        requires { length (rows_in self.old.preempted) < 1024 }
-        ensures { worker_view self.new ≡ to_preempted (task ∷ rows_in self.old.preempted) (to_state Idle (worker_view self.old)) }
+        requires { length self.old.preempted < 1024 }
+        ensures { self.new ≡ to_preempted (task ∷ self.old.preempted) (to_state Idle self.old) }
     {
         self.state = WorkerState::Idle;
-        self.preempted.push_bottom(task);
+        self.preempted.push_bottom(task).unwrap();
     }
 
     // Gives up the task at the top of its preempted queue, or if there is none that at the top of
     // its fresh queue, and counts the theft.
     pub fn rob(&mut self) -> Option<u16>
         requires { self.old.steals < 1024 }
-        ensures result { result ≡ offers (worker_view self.old) }
-        ensures after { worker_view self.new ≡ robbed_of (worker_view self.old) }
+        ensures result { result ≡ offers self.old }
+        ensures after { self.new ≡ robbed_of self.old }
     {
         let stolen = match self.preempted.pop_top() {
             Some(task) => task,

@@ -1,7 +1,7 @@
 -- Rows round a ring of slots. Assumes nothing.
-use Rattle.std.proofs.Common.{◌≡◌, ℕ, zero, suc, ◌+◌, ◌-◌, ◌%◌, ◌<◌, ◌≤◌, ◌≢◌, List, ◌∷◌, length, get_or, set, Some, None, sym, refl, ap, ◌∙◌, ap₂, add-one, arith}
+use Rattle.std.proofs.Common.{◌≡◌, ℕ, zero, suc, ◌+◌, ◌-◌, ◌%◌, ◌<◌, ◌≤◌, ◌≢◌, List, ◌∷◌, length, get_or, set, Some, sym, refl, ap, ◌∙◌, ap₂, add-one, arith}
 use Rattle.std.proofs.lemmas.List.{get_or-set_same, get_or-set_other}
-use Rattle.deque.specs.Queues.{bottom, above_bottom, top, top_over, below_top, below_top_over}
+use Rattle.deque.specs.Queues.{above_bottom, top, top_over, below_top, below_top_over}
 use Rattle.deque.specs.Deques.{room, slot, ring}
 
 module _ (slots : List ℕ) where
@@ -32,36 +32,21 @@ module _ (slots : List ℕ) where
 
 -- what a deque answers and leaves, by how many rows it has
 module _ (slots : List ℕ) (at : ℕ) where
-  pub bottom_none : (n : ℕ) → n ≡ 0 → None ≡ bottom (ring slots at n)
-  bottom_none n e = sym (ap (λ k. bottom (ring slots at k)) e)
-
-  pub bottom-some : (n : ℕ) → (n ≡ 0 → ⊥) → Some (get_or slots (slot at) 0) ≡ bottom (ring slots at n)
-  bottom-some zero ne = absurd (ne refl)
-  bottom-some (suc n) ne = refl
-
-  pub some-bottom : (n x : ℕ) → Some x ≡ bottom (ring slots at n) → 1 ≤ n
-  some-bottom zero x e = let z : ◌≡◌ {A = ℕ} 0 1 = cc in absurd (omega arith)
-  some-bottom (suc n) x e = omega arith
-
   pub popped_bottom : (n : ℕ) → 1 ≤ n → ring slots ((at + 1) % 1024) (n - 1) ≡ above_bottom (ring slots at n)
   popped_bottom zero l = absurd (omega arith)
   popped_bottom (suc n) l =
       ring-slot slots ((at + 1) % 1024) (at + 1) (suc n - 1) (omega arith) ∙ ap (ring slots (at + 1)) (omega arith)
 
-  pub popped_none : (n : ℕ) → n ≡ 0 → (None ≡ top (ring slots at n)) × (ring slots at n ≡ below_top (ring slots at n))
-  popped_none zero e = (refl, refl)
-  popped_none (suc n) e = absurd (omega arith)
-
-  pub popped_top : (n : ℕ) → (n ≡ 0 → ⊥) → (Some (get_or slots ((at + (n - 1)) % 1024) 0) ≡ top (ring slots at n)) × (ring slots at (n - 1) ≡ below_top (ring slots at n))
-  popped_top zero ne = absurd (ne refl)
-  popped_top (suc n) ne =
+  pub popped_top : (n : ℕ) → 1 ≤ n → (Some (get_or slots ((at + (n - 1)) % 1024) 0) ≡ top (ring slots at n)) × (ring slots at (n - 1) ≡ below_top (ring slots at n))
+  popped_top zero some = absurd (omega arith)
+  popped_top (suc n) some =
       let less : suc n - 1 ≡ n = omega arith in (
         ap (λ k. Some (get_or slots ((at + k) % 1024) 0)) less ∙ ap Some (sym (ring-top slots at n)),
         ap (ring slots at) less ∙ sym (ring_below slots at n),
       )
 
-  pub pushed : (n x : ℕ) → n < room → length slots ≡ room → ring (set slots ((at + 1023) % 1024) x) ((at + 1023) % 1024) (n + 1) ≡ x ∷ ring slots at n
-  pushed n x few sized =
+  pub ring_with_bottom : (n x : ℕ) → n < room → length slots ≡ room → ring (set slots ((at + 1023) % 1024) x) ((at + 1023) % 1024) (n + 1) ≡ x ∷ ring slots at n
+  ring_with_bottom n x few sized =
       let j = (at + 1023) % 1024 in
       let low : j < 1024 = omega arith in
       let own : slot j ≡ j = omega arith in

@@ -1,26 +1,59 @@
 // Double-ended queues of row numbers, in fixed memory.
 #![tactic(auto)]
 
-ghost use Rattle.std.specs.Prelude.{◌≡◌, [], ◌∷◌, length, if◌then◌else◌, nat_lt};
-ghost use Rattle.deque.specs.Deques.{room, rows_in};
+ghost use Rattle.std.specs.Prelude.{◌≡◌, ◌≤◌, ◌==◌, [], length};
+ghost use Rattle.deque.specs.Deques.{room, push_answer, pushed};
 ghost use Rattle.deque.specs.Queues.{bottom, above_bottom, top, below_top};
 
-// The most rows in a deque: as many as a job has.
+use std::marker::Model;
+
+// The most rows in a deque: as many as a job has. It is no parameter of the type: there is one such
+// number, and each `new` would have to ask that it is above 0 and that twice of it fits.
 const ROOM: usize = 1024;
 
+// Why a row was not put to a deque.
+#[derive(Clone, Copy, PartialEq, Eq, Debug)]
+pub enum PushError {
+    // the deque has as many rows as it holds
+    Full,
+}
+
 // A deque: its owner puts rows to its bottom and takes them from there, and others take from its
-// top. The rows lie in a ring of slots, the bottom first.
-#[derive(Clone, Copy)]
+// top. The rows lie in a ring of slots, the bottom first: an `ArrayVec` would move all of them at
+// each push to the bottom.
+#[derive(Clone, Debug, Drop)]
 pub struct Deque {
     slots: [u16; ROOM],
-    bottom: u16,
-    len: u16,
+    bottom: usize,
+    len: usize,
+}
+
+// Clauses see the rows, from the bottom to the top.
+impl Model for Deque {
+    ghost use Rattle.std.specs.Prelude.{◌<◌, ◌≤◌, ℕ, List};
+    ghost use Rattle.deque.specs.Deques.{room, ring};
+
+    ghost Value = { List ℕ };
+
+    ghost view = { λ d. ring d.slots d.bottom d.len };
+
+    ghost invariant = { λ d. (d.bottom < room) × (d.len ≤ room) };
+}
+
+impl Default for Deque {
+    ghost use Rattle.std.specs.Prelude.{◌≡◌, []};
+
+    ghost is_default = { λ d. d ≡ [] };
+
+    fn default() -> Deque {
+        Deque::new()
+    }
 }
 
 impl Deque {
     // A deque with no rows.
     pub fn new() -> Deque
-        ensures { rows_in result ≡ [] }
+        ensures { result ≡ [] }
     {
         Deque {
             slots: [0; ROOM],
@@ -31,64 +64,71 @@ impl Deque {
 
     // Takes all rows out.
     pub fn clear(&mut self)
-        ensures { rows_in self.new ≡ [] }
+        ensures { self.new ≡ [] }
     {
         self.len = 0;
     }
 
     // How many rows there are.
     pub fn len(&self) -> usize
-        ensures { result ≡ length (rows_in self.now) }
+        ensures rows { result ≡ length self.now }
+        ensures fits { result ≤ room }
     {
-        self.len as usize
+        self.len
+    }
+
+    // Whether there is no row.
+    pub fn is_empty(&self) -> bool
+        ensures { result ≡ (length self.now == 0) }
+    {
+        self.len == 0
     }
 
     // The row at the bottom.
     pub fn bottom(&self) -> Option<u16>
-        ensures { result ≡ bottom (rows_in self.now) }
+        ensures { result ≡ bottom self.now }
     {
-        if self.len == 0 {
+        if self.is_empty() {
             None
         } else {
-            Some(self.slots[self.bottom as usize % ROOM])
+            Some(self.slots[self.bottom])
         }
     }
 
-    // Puts a row to the bottom, unless the deque is full; answers whether it did.
-    pub fn push_bottom(&mut self, row: u16) -> bool
-        ensures result { result ≡ nat_lt (length (rows_in self.old)) room }
-        ensures after { rows_in self.new ≡ (if result then row ∷ rows_in self.old else rows_in self.old) }
+    // Puts a row to the bottom, unless the deque is full.
+    pub fn push_bottom(&mut self, row: u16) -> Result<(), PushError>
+        ensures result { result ≡ push_answer self.old }
+        ensures after { self.new ≡ pushed self.old row }
     {
-        if self.len as usize >= ROOM {
-            return false;
+        if self.len == ROOM {
+            return Err(PushError::Full);
         }
-        let at = (self.bottom as usize + (ROOM - 1)) % ROOM;
-        self.slots[at] = row;
-        self.bottom = at as u16;
+        self.bottom = (self.bottom + (ROOM - 1)) % ROOM;
+        self.slots[self.bottom] = row;
         self.len += 1;
-        true
+        Ok(())
     }
 
     // Takes the row at the bottom out.
     pub fn pop_bottom(&mut self) -> Option<u16>
-        ensures result { result ≡ bottom (rows_in self.old) }
-        ensures after { rows_in self.new ≡ above_bottom (rows_in self.old) }
+        ensures result { result ≡ bottom self.old }
+        ensures after { self.new ≡ above_bottom self.old }
     {
         let row = self.bottom()?;
-        self.bottom = ((self.bottom as usize + 1) % ROOM) as u16;
+        self.bottom = (self.bottom + 1) % ROOM;
         self.len -= 1;
         Some(row)
     }
 
     // Takes the row at the top out.
     pub fn pop_top(&mut self) -> Option<u16>
-        ensures result { result ≡ top (rows_in self.old) }
-        ensures after { rows_in self.new ≡ below_top (rows_in self.old) }
+        ensures result { result ≡ top self.old }
+        ensures after { self.new ≡ below_top self.old }
     {
-        if self.len == 0 {
+        if self.is_empty() {
             return None;
         }
         self.len -= 1;
-        Some(self.slots[(self.bottom as usize + self.len as usize) % ROOM])
+        Some(self.slots[(self.bottom + self.len) % ROOM])
     }
 }

@@ -1,55 +1,51 @@
 -- A job laid out row by row. Assumes nothing.
---     no_entry                   an entry of zeros
---     entry entries r            entry r, or that of zeros past the last
---     entry_rows entries n       the rows of the first n entries
+--     no_entry                   the entry of the blank row
+--     entry entries r            entry r, or that of the blank row past the last
+--     entry_rows entries         the rows of the entries
 --     first_entry x              the entry of row 0
 --     inner_entry e p x          the entry of a row x whose nearest enclosing row is p, which has the entry e
---     enclosed entries n r       the entry of row r, if it is a row of the job other than row 0
---     RightEntry rows r e        the entry e of row r has its nearest enclosing row, its finish and its task, or 0 where it has none
+--     AroundRow rows r o         o is the nearest row, the finish and the task around row r, and nothing where it has none
 --     EntryOf rows r e           e is all that there is to say of row r
---     LaidOut entries n          the first n entries are right, and their rows, if any, are a lawful job
-use Rattle.std.specs.Prelude.{◌≡◌, ℕ, ◌<◌, ◌≤◌, cond, ◌&&◌, ◌||◌, List, map, take, Some, None, Option, ◌==◌, nat_lt, slice_index_or}
-use Rattle.std.specs.Option.{unwrap_or}
+--     LaidOut entries            the entries are right, and their rows, if any, are a lawful job
+use Rattle.std.specs.Prelude.{◌≡◌, ℕ, ◌<◌, ◌≤◌, if◌then◌else◌, List, length, map, Some, None, Option, slice_index_or}
+use Rattle.std.specs.Option.{option_map}
+use Rattle.job.specs.declared.entry.Around.{Around}
 use Rattle.job.specs.declared.entry.Entry.{Entry}
 use Rattle.job.specs.declared.row.Row.{Row}
 use Rattle.job.specs.Rows.{blank, row, is_finish, is_async, nearest, finish, task}
 use Rattle.job.specs.Lawful.{Lawful}
 
 abbrev pub no_entry : Entry
-no_entry = record { row = blank; nearest = 0; finish = 0; task = 0 }
+no_entry = record { row = blank; around = None }
 
 abbrev pub entry : List Entry → ℕ → Entry
 entry entries r = slice_index_or entries r no_entry
 
-unfoldable pub entry_rows : List Entry → ℕ → List Row
-entry_rows entries n = map (λ (e : Entry). e.row) (take n entries)
+abbrev pub entry_rows : List Entry → List Row
+entry_rows entries = map (λ (e : Entry). e.row) entries
 
 abbrev pub first_entry : Row → Entry
-first_entry x = record { row = x; nearest = 0; finish = 0; task = 0 }
+first_entry x = record { row = x; around = None }
+
+-- what is around a row whose nearest enclosing row is the row x of number p: p itself for what p is, else what is around p;
+-- row 0, which nothing is around, is a finish row and a task
+abbrev pub inner_around : Row → ℕ → Option Around → Around
+inner_around x p None = record { nearest = p; finish = p; task = p }
+inner_around x p (Some a) =
+    record { nearest = p; finish = if is_finish x then p else a.finish; task = if is_async x then p else a.task }
 
 abbrev pub inner_entry : Entry → ℕ → Row → Entry
-inner_entry e p x =
-    record {
-      row = x;
-      nearest = p;
-      finish = cond (is_finish e.row) p e.finish;
-      task = cond (p == 0 || is_async e.row) p e.task;
-    }
+inner_entry e p x = record { row = x; around = Some (inner_around e.row p e.around) }
 
-abbrev pub enclosed : List Entry → ℕ → ℕ → Option Entry
-enclosed entries n r = cond (nat_lt 0 r && nat_lt r n) (Some (entry entries r)) None
-
-pub record RightEntry (rows : List Row) (r : ℕ) (e : Entry) : Type 0 where
-  pub near : e.nearest ≡ unwrap_or (nearest rows r) 0
-  pub fin : e.finish ≡ unwrap_or (finish rows r) 0
-  pub own : e.task ≡ unwrap_or (task rows r) 0
-  deriving IsProp as RightEntry-prop
+pub record AroundRow (rows : List Row) (r : ℕ) (o : Option Around) : Type 0 where
+  pub near : option_map (λ (a : Around). a.nearest) o ≡ nearest rows r
+  pub fin : option_map (λ (a : Around). a.finish) o ≡ finish rows r
+  pub own : option_map (λ (a : Around). a.task) o ≡ task rows r
 
 pub record EntryOf (rows : List Row) (r : ℕ) (e : Entry) : Type 0 where
   pub here : e.row ≡ row rows r
-  pub right : RightEntry rows r e
+  pub right : AroundRow rows r e.around
 
-pub record LaidOut (entries : List Entry) (n : ℕ) : Type 0 where
-  pub lawful : 1 ≤ n → Lawful (entry_rows entries n)
-  pub each : (r : ℕ) → r < n → RightEntry (entry_rows entries n) r (entry entries r)
-  deriving IsProp as LaidOut-prop
+pub record LaidOut (entries : List Entry) : Type 0 where
+  pub lawful : 1 ≤ length (entry_rows entries) → Lawful (entry_rows entries)
+  pub each : (r : ℕ) → r < length (entry_rows entries) → AroundRow (entry_rows entries) r (entry entries r).around

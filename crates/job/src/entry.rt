@@ -4,14 +4,20 @@ ghost use Rattle.job.specs.Entries.{first_entry, inner_entry};
 
 use crate::row::Row;
 
-// The row, and what the rules ask of it: its nearest enclosing row, its finish and its task. Row 0
-// has none of the three, and 0 in their places.
-#[derive(Clone, Copy)]
-pub struct Entry {
-    pub row: Row,
+// What the rules ask of a row that others enclose: its nearest enclosing row, its finish and its
+// task.
+#[derive(Clone, Copy, PartialEq, Eq, Debug)]
+pub struct Around {
     pub nearest: u16,
     pub finish: u16,
     pub task: u16,
+}
+
+// The row, and what is around it: nothing is around row 0.
+#[derive(Clone, Copy, Default, PartialEq, Eq, Debug)]
+pub struct Entry {
+    pub row: Row,
+    pub around: Option<Around>,
 }
 
 impl Entry {
@@ -19,27 +25,33 @@ impl Entry {
     pub fn first(row: Row) -> Entry
         ensures { result ≡ first_entry row }
     {
-        Entry {
-            row,
-            nearest: 0,
-            finish: 0,
-            task: 0,
-        }
+        Entry { row, around: None }
     }
 
     // The entry of a row that this one, which has the number p, is the nearest row around.
-    pub fn around(self, p: u16, row: Row) -> Entry
+    pub fn inner(self, p: u16, row: Row) -> Entry
         ensures { result ≡ inner_entry self p row }
     {
+        let around = match self.around {
+            // row 0 is a finish row and a task
+            None => Around {
+                nearest: p,
+                finish: p,
+                task: p,
+            },
+            Some(outer) => Around {
+                nearest: p,
+                finish: if self.row.is_finish() {
+                    p
+                } else {
+                    outer.finish
+                },
+                task: if self.row.is_async() { p } else { outer.task },
+            },
+        };
         Entry {
             row,
-            nearest: p,
-            finish: if self.row.kind == 1 { p } else { self.finish },
-            task: if p == 0 || self.row.kind == 2 {
-                p
-            } else {
-                self.task
-            },
+            around: Some(around),
         }
     }
 }

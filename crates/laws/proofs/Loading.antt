@@ -3,12 +3,13 @@ use Rattle.std.proofs.Common.{◌≡◌, ℕ, zero, suc, ◌-◌, ◌<◌, ◌�
 use lib.ListN.{length-replicate}
 use Rattle.std.proofs.lemmas.List.Sums.{sum_by-cons}
 use Rattle.std.proofs.lemmas.Bool.{cond-true, cond-false, cases_Bool, both_ways, and_parts, leb-true, ltb-false, ne_eqb}
+use Rattle.job.specs.declared.refusal.JobRefusal.TheVariants.{RowCount, Unlawful}
 use Rattle.job.specs.declared.row.Row.{Row}
 use Rattle.job.specs.Lawful.{Lawful, countable, lowest_unlawful}
 use Rattle.job.specs.Rows.{most_rows, row, is_async, is_task}
 use Rattle.job.proofs.Nests.{lowest_none}
 use Rattle.rules.specs.declared.refusal.DealRefusal.{DealRefusal}
-use Rattle.rules.specs.declared.refusal.DealRefusal.TheVariants.{RowCount, WorkerCount, Figures as BadFigures, ShortBook, Unlawful}
+use Rattle.rules.specs.declared.refusal.DealRefusal.TheVariants.{Job, WorkerCount, Figures as BadFigures, ShortBook}
 use Rattle.rules.specs.declared.state.Figures.{Figures}
 use Rattle.rules.specs.declared.state.TaskState.{TaskState}
 use Rattle.rules.specs.declared.state.TaskState.TheVariants.{Unspawned, Running, Suspended}
@@ -71,12 +72,12 @@ granted_is rows lines n x ok =
     (cases_Bool (lawful_figures x)))
     (λ no'. ok_err WorkerCount (sym (cond-false (lawful_workers n) _ _ no') ∙ ok₁))
     (cases_Bool (lawful_workers n)))
-    (λ no'. ok_err RowCount (sym (cond-false (countable (length rows)) _ _ no') ∙ ok))
+    (λ no'. ok_err (Job RowCount) (sym (cond-false (countable (length rows)) _ _ no') ∙ ok))
     (cases_Bool (countable (length rows)))
   where
     unlawful_none : (o : Option ℕ) → unless_unlawful o ≡ Ok tt → o ≡ None
     unlawful_none None e = refl
-    unlawful_none (Some r) e = ok_err (Unlawful r) e
+    unlawful_none (Some r) e = ok_err (Job (Unlawful r)) e
 
 module _ (rows : List Row) (lines n : ℕ) (x : Figures) (g : Granted rows lines n x) where
   abbrev b : Board

@@ -8,10 +8,11 @@
 --     cleared rows book          each job line of a book set to nothing, and the lines past the job as they were
 --     load b rows book n x       a load with its board and its book
 use Rattle.std.specs.Prelude.{ℕ, ◌-◌, Bool, false, cond, ◌&&◌, List, ◌∷◌, ◌++◌, length, drop, replicate, Some, None, Ok, Err, Option, Result, nat_le, nat_lt}
+use Rattle.job.specs.declared.refusal.JobRefusal.TheVariants.{RowCount, Unlawful}
 use Rattle.job.specs.declared.row.Row.{Row}
 use Rattle.job.specs.Lawful.{countable, lowest_unlawful}
 use Rattle.rules.specs.declared.refusal.DealRefusal.{DealRefusal}
-use Rattle.rules.specs.declared.refusal.DealRefusal.TheVariants.{RowCount, WorkerCount, Figures as BadFigures, ShortBook, Unlawful}
+use Rattle.rules.specs.declared.refusal.DealRefusal.TheVariants.{Job, WorkerCount, Figures as BadFigures, ShortBook}
 use Rattle.rules.specs.declared.state.Figures.{Figures}
 use Rattle.rules.specs.declared.state.TaskState.TheVariants.{Unspawned, Running}
 use Rattle.rules.specs.declared.state.WorkerState.TheVariants.{Stands}
@@ -48,7 +49,7 @@ loaded rows n x =
 
 abbrev pub unless_unlawful : Option ℕ → Result (Unit {0}) DealRefusal
 unless_unlawful None = Ok tt
-unless_unlawful (Some r) = Err (Unlawful r)
+unless_unlawful (Some r) = Err (Job (Unlawful r))
 
 abbrev pub loads : List Row → ℕ → ℕ → Figures → Result (Unit {0}) DealRefusal
 loads rows lines n x =
@@ -56,7 +57,7 @@ loads rows lines n x =
     (cond (lawful_workers n)
     (cond (lawful_figures x) (cond (nat_lt lines (length rows)) (Err ShortBook) (unless_unlawful (lowest_unlawful rows))) (Err BadFigures))
     (Err WorkerCount))
-    (Err RowCount)
+    (Err (Job RowCount))
 
 abbrev pub board_after : {E : Type 0} → Result (Unit {0}) E → Board → Board → Board
 board_after (Ok u) new old = new

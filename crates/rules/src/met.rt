@@ -1,5 +1,5 @@
 // What a worker meets next.
-#[derive(Clone, Copy)]
+#[derive(Clone, Copy, PartialEq, Eq, Debug)]
 pub enum Met {
     // a work row
     Work(usize),

@@ -1,22 +1,21 @@
 // Why a call of a board was refused.
 ghost use Rattle.std.specs.Prelude.{◌≡◌};
 ghost use Rattle.rules.specs.Refusals.{deal_number, deal_told};
+ghost use Rattle.rules.specs.declared.refusal.DealRefusal.TheVariants.{Job};
 
-use job::Refusal;
+use job::{JobRefusal, Refusal};
 
 // Each call has the causes that its rule lists, and looks for them in that order.
 #[derive(Clone, Copy, PartialEq, Eq, Debug)]
 pub enum DealRefusal {
-    // a job of no rows, or of more than 1,024
-    RowCount,
+    // the job is at fault: its number of rows comes first, and its lowest unlawful row last
+    Job(JobRefusal),
     // no workers, or more than 16
     WorkerCount,
     // S or F above 1,024, or INT not from 1 to 1,024
     Figures,
     // the book has fewer lines than the job has rows
     ShortBook,
-    // the lowest unlawful row
-    Unlawful(usize),
     // there is no such worker
     NoWorker,
     // the run is finished
@@ -42,11 +41,10 @@ impl Refusal for DealRefusal {
 
     fn number(&self) -> u8 {
         match self {
-            DealRefusal::RowCount => 1,
+            DealRefusal::Job(refusal) => refusal.number(),
             DealRefusal::WorkerCount => 2,
             DealRefusal::Figures => 3,
             DealRefusal::ShortBook => 4,
-            DealRefusal::Unlawful(_) => 5,
             DealRefusal::NoWorker => 6,
             DealRefusal::Finished => 7,
             DealRefusal::WorkerOut => 8,
@@ -60,9 +58,17 @@ impl Refusal for DealRefusal {
 
     fn place(&self) -> Option<usize> {
         match self {
-            DealRefusal::Unlawful(row) => Some(*row),
+            DealRefusal::Job(refusal) => refusal.place(),
             DealRefusal::AtWork(row) => Some(*row),
             _ => None,
         }
+    }
+}
+
+impl From<JobRefusal> for DealRefusal {
+    ghost from_gives = { λ e r. r ≡ Job e };
+
+    fn from(fault: JobRefusal) -> DealRefusal {
+        DealRefusal::Job(fault)
     }
 }

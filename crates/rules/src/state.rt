@@ -2,7 +2,7 @@
 
 // Where work at a task stands: the inner row is the finish or async row that was entered last and
 // not yet left, and the next row is the one to come, or the inner row's end.
-#[derive(Clone, Copy)]
+#[derive(Clone, Copy, PartialEq, Eq, Debug)]
 pub struct Position {
     pub task: u16,
     pub inner: u16,
@@ -10,9 +10,10 @@ pub struct Position {
 }
 
 // What a worker does.
-#[derive(Clone, Copy)]
+#[derive(Clone, Copy, Default, PartialEq, Eq, Debug)]
 pub enum WorkerState {
     // it has no task
+    #[default]
     Idle,
     // it stands in a task
     Stands(Position),
@@ -21,9 +22,10 @@ pub enum WorkerState {
 }
 
 // What has become of a task: of row 0, or of an async row.
-#[derive(Clone, Copy)]
+#[derive(Clone, Copy, Default, PartialEq, Eq, Debug)]
 pub enum TaskState {
     // not yet spawned
+    #[default]
     Unspawned,
     // spawned, and in a fresh queue until somebody begins it
     Fresh,
@@ -38,16 +40,17 @@ pub enum TaskState {
 }
 
 // How a worker places the async rows that it spawns, where neither threshold decides.
-#[derive(Clone, Copy)]
+#[derive(Clone, Copy, Default, PartialEq, Eq, Debug)]
 pub enum Policy {
     // the child waits, and the parent goes on
+    #[default]
     HelpFirst,
     // the parent waits, and the child begins
     WorkFirst,
 }
 
 // The numbers that a board is loaded with besides its workers.
-#[derive(Clone, Copy)]
+#[derive(Clone, Copy, Default, PartialEq, Eq, Debug)]
 pub struct Figures {
     // S: from so many preempted tasks on, a worker places help-first
     pub stack: usize,

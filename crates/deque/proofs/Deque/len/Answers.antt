@@ -1,8 +1,6 @@
-use Rattle.std.proofs.Common.{sym}
-use Rattle.deque.specs.Deques.{rows_in}
+use Rattle.std.proofs.Common.{length, sym, ap, ◌∙◌}
 use Rattle.deque.proofs.Rings.{length-ring}
 use Rattle.deque.proofs.Deque.len.Goals as goal
 
-pub returns : goal.returns
-unfolding rows_in
-returns c = sym (length-ring c.args.self.now.slots c.args.self.now.bottom c.args.self.now.len)
+pub returns-clause-rows : goal.returns-clause-rows
+returns-clause-rows c = sym (length-ring _ _ _) ∙ ap length c.self.view_is

@@ -1,24 +1,19 @@
-use Rattle.std.proofs.Common.{◌<◌, ltb, sym, refl, ap, ◌∙◌, arith}
-use Rattle.std.proofs.lemmas.Bool.{lt-ltb, le-ltb}
-use Rattle.deque.specs.Deques.{room, rows_in}
-use Rattle.deque.proofs.Rings.{length-ring, pushed}
+use Rattle.std.proofs.Common.{◌≡◌, ◌<◌, ◌∷◌, length, sym, ap, ◌∙◌, arith}
+use Rattle.std.proofs.lemmas.Bool.Decides.{nat_tests}
+use Rattle.deque.specs.Deques.{room}
+use Rattle.deque.proofs.Rings.{length-ring, ring_with_bottom}
 use Rattle.deque.proofs.Deque.push_bottom.Goals as goal
 
-pub returns-then-self-ge-ROOM : goal.returns-then-self-ge-ROOM
-unfolding rows_in
-returns-then-self-ge-ROOM c =
-    let d = c.args.self.now in
-    record {
-      result = sym (ap (λ n. ltb n room) (length-ring d.slots d.bottom d.len) ∙ le-ltb d.len room (omega arith));
-      after = refl;
-    }
+pub returns-then-self-eq-ROOM : goal.returns-then-self-eq-ROOM
+returns-then-self-eq-ROOM c =
+    let many : length c.args.self.now ≡ room = sym (ap length c.self.view_is) ∙ length-ring _ _ _ ∙ c.if-self-eq-ROOM.true in
+    record { result = grind (arith, nat_tests); after = grind (arith, nat_tests) }
 
 pub returns : goal.returns
-unfolding rows_in
 returns c =
-    let d = c.args.self.now in
-    let few : d.len < room = omega arith in
+    let d = c.self.inside in
+    let few : length c.args.self.now < room = omega (arith, ap length c.self.view_is, length-ring d.slots d.bottom d.len) in
     record {
-      result = sym (ap (λ n. ltb n room) (length-ring d.slots d.bottom d.len) ∙ lt-ltb d.len room few);
-      after = pushed d.slots d.bottom d.len c.args.row few (omega arith);
+      result = grind (arith, nat_tests);
+      after = ring_with_bottom d.slots d.bottom d.len c.args.row (omega arith) (omega arith) ∙ ap (c.args.row ∷◌) c.self.view_is ∙ grind (arith, nat_tests);
     }

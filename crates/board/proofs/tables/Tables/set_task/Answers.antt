@@ -1,9 +1,13 @@
-use Rattle.std.proofs.Common.{length, refl}
-use Rattle.job.specs.Layouts.{laid}
-use Rattle.board.proofs.Views.{taken-set, same_board}
+use Rattle.std.proofs.Common.{refl, ap, ◌∙◌}
+use Rattle.std.proofs.Math.Seq.{map-set_same}
+use Rattle.std.proofs.lemmas.List.{map-set}
+use Rattle.rules.specs.Boards.{Board, with_task}
+use Rattle.board.specs.declared.tables.Progress.{Progress}
+use Rattle.board.proofs.Boards.{same_board}
 use Rattle.board.proofs.tables.Tables.set_task.Goals as goal
 
+-- the live numbers stay
 pub returns : goal.returns
 returns c =
-    let t = c.args.self.now in
-    record { board = same_board refl refl (taken-set (length (laid t.job)) t.tasks c.args.t c.args.s) refl refl refl; crew = refl }
+    let lives = map-set_same (λ (p : Progress). p.live) _ _ _ _ (ap (λ (p : Progress). p.live) c.in-Some.ensures.value) in
+    same_board refl refl (map-set _ _ _ _) lives refl refl ∙ ap (λ (b : Board). with_task b c.args.t c.args.task) c.self.view_is

@@ -1,6 +1,5 @@
-use Rattle.std.proofs.Common.{ℕ, ◌<◌}
-use Rattle.job.specs.Entries.{EntryOf, entry}
+use Rattle.job.proofs.InnerEntries.{Entered}
 use Rattle.job.proofs.layout.fill.fill_entries.Given as goal
 
 abbrev pub invariant-loop-r : goal.invariant-loop-r
-invariant-loop-r g l = (q : ℕ) → q < l.r → EntryOf (g.S.JobSource.rows l.source) q (entry l.entries q)
+invariant-loop-r g l = Entered (g.S.JobSource.rows l.source) l.entries.items l.r
