@@ -19,8 +19,7 @@ impl Tables {
         Answer {
             action,
             row,
-            closed,
-            task: self.now_has(w),
+            outcome: (closed, self.now_has(w)),
         }
     }
 

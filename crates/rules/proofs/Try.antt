@@ -21,7 +21,7 @@ abbrev answers : List Row → ℕ → Figures → List Number → List (Call Num
 answers rows n x lines calls = map (λ m. m.said) (history zero_number sum kept (loaded rows n x) lines calls)
 
 abbrev said : Action → ℕ → Option ℕ → Option ℕ → Said
-said a r c t = stepped (Ok (record { action = a; row = r; closed = c; task = t }))
+said a r c t = stepped (Ok (record { action = a; row = r; outcome = (c, t) }))
 
 abbrev blank-book : List Number
 blank-book = zero_number ∷ zero_number ∷ zero_number ∷ zero_number ∷ zero_number ∷ zero_number ∷ []

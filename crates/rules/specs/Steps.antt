@@ -45,7 +45,7 @@ abbrev pub refused : Board → DealRefusal → Dealt
 refused b e = record { answer = Err e; board = b }
 
 abbrev pub granted : Action → ℕ → Option ℕ → Board → ℕ → Dealt
-granted a r closed b w = record { answer = Ok (record { action = a; row = r; closed = closed; task = now_has b w }); board = b }
+granted a r closed b w = record { answer = Ok (record { action = a; row = r; outcome = (closed, now_has b w) }); board = b }
 
 -- the finish row that comes next becomes the inner row, and the row after it is next
 abbrev pub opens : Board → ℕ → Position → ℕ → Dealt
@@ -130,7 +130,7 @@ deals b lines w v =
     (cond (nat_lt lines (length b.rows)) (refused b ShortBook) (cond b.finished (refused b Finished) turn))
 
 abbrev pub closed_by : Result Answer DealRefusal → Option ℕ
-closed_by (Ok a) = a.closed
+closed_by (Ok a) = a.outcome.0
 closed_by (Err e) = None
 
 module _ {M : Type 0} (nothing : M) (join : M → M → M) (seal : ℕ → M → M) where

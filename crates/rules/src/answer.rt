@@ -24,8 +24,6 @@ pub struct Answer {
     pub action: Action,
     // the row opened, spawned, closed, waited for, ended or stolen
     pub row: usize,
-    // the finish row closed
-    pub closed: Option<usize>,
-    // the task that the worker now has
-    pub task: Option<usize>,
+    // the finish row closed, and the task that the worker now has
+    pub outcome: (Option<usize>, Option<usize>),
 }
