@@ -64,18 +64,6 @@ impl Worker {
         }
     }
 
-    // Begins anew, whatever it did before.
-    pub fn reset(&mut self)
-        ensures { self.new ≡ no_worker }
-    {
-        self.preempted.clear();
-        self.fresh.clear();
-        self.state = WorkerState::Idle;
-        self.spawns = 0;
-        self.steals = 0;
-        self.policy = Policy::HelpFirst;
-    }
-
     // What it does.
     pub fn state(&self) -> WorkerState
         ensures { result ≡ self.now.state }
