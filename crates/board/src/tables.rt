@@ -21,7 +21,7 @@ pub struct Progress {
 }
 
 // A board with its workers and the rows of its job.
-#[derive(Debug, Drop)]
+#[derive(Debug, Default, Drop)]
 pub struct Tables {
     // the job, with what the rules ask of its rows
     pub job: Layout,
@@ -52,17 +52,6 @@ impl Model for Tables {
     } };
 
     ghost invariant = { λ t. length t.progress.items ≡ length t.job };
-}
-
-impl Default for Tables {
-    ghost use Rattle.std.specs.Prelude.{◌≡◌};
-    ghost use Rattle.rules.specs.Boards.{no_board};
-
-    ghost is_default = { λ t. t ≡ no_board };
-
-    fn default() -> Tables {
-        Tables::new()
-    }
 }
 
 impl Tables {

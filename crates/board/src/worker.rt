@@ -10,7 +10,7 @@ use rules::{Figures, Policy, Position, WorkerState};
 use std::marker::Model;
 
 // What a worker does, its two queues, its counters and its policy.
-#[derive(Clone, Debug, Drop)]
+#[derive(Clone, Debug, Default, Drop)]
 pub struct Worker {
     preempted: Deque,
     fresh: Deque,
@@ -36,17 +36,6 @@ impl Model for Worker {
       steals = x.steals;
       policy = x.policy;
     } };
-}
-
-impl Default for Worker {
-    ghost use Rattle.std.specs.Prelude.{◌≡◌};
-    ghost use Rattle.rules.specs.Boards.{no_worker};
-
-    ghost is_default = { λ x. x ≡ no_worker };
-
-    fn default() -> Worker {
-        Worker::new()
-    }
 }
 
 impl Worker {
@@ -132,6 +121,7 @@ impl Worker {
         ensures result { result ≡ offers self.old }
         ensures after { self.new ≡ robbed_of self.old }
     {
+        // no chain with a closure: of the queue that it changes a proof then knows too little
         let stolen = match self.preempted.pop_top() {
             Some(task) => task,
             None => self.fresh.pop_top()?,

@@ -40,6 +40,7 @@ impl Model for Deque {
     ghost invariant = { λ d. (d.bottom < room) × (d.len ≤ room) };
 }
 
+// By hand, since an array of so many slots has none to derive it from.
 impl Default for Deque {
     ghost use Rattle.std.specs.Prelude.{◌≡◌, []};
 

@@ -45,6 +45,7 @@ pub(crate) fn nearest_rows<S: JobSource>(source: &S) -> Result<[u16; MOST_ROWS],
         return Err(JobRefusal::Unlawful(0));
     }
     let mut nearest = [0; MOST_ROWS];
+    // by number, since a source has no slice of its rows to go over
     for r in 1..count {
         let p = climb(source, &nearest, r);
         if !is_lawful(source, r, p) {

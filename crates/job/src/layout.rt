@@ -17,7 +17,7 @@ use std::marker::Model;
 mod fill;
 
 // No rows, or those of a lawful job with what was worked out of each.
-#[derive(Clone, Debug, Drop)]
+#[derive(Clone, Debug, Default, Drop)]
 pub struct Layout {
     entries: ArrayVec<Entry, MOST_ROWS>,
 }
@@ -33,16 +33,6 @@ impl Model for Layout {
     ghost view = { λ l. entry_rows l.entries.items };
 
     ghost invariant = { λ l. LaidOut l.entries.items };
-}
-
-impl Default for Layout {
-    ghost use Rattle.std.specs.Prelude.{◌≡◌, []};
-
-    ghost is_default = { λ l. l ≡ [] };
-
-    fn default() -> Layout {
-        Layout::new()
-    }
 }
 
 impl Layout {
@@ -106,7 +96,8 @@ impl Layout {
         self.entries.get(r)?.around
     }
 
-    // The nearest row that encloses r.
+    // The nearest row that encloses r. This, its finish and its task are three calls, since no rule
+    // asks for more than one of them.
     pub fn nearest(&self, r: usize) -> Option<usize>
         ensures { result ≡ nearest self.now r }
     {

@@ -12,7 +12,8 @@ use total::{Count, Total, fill_serial_totals};
 // Puts the total records of a job's finish rows, in row order, and answers the place after them.
 fn put_totals(out: &mut [u8], at: usize, rows: &[Row], book: &[Count]) -> usize
     requires room { at + 52 * length rows.now ≤ length out.old }
-    requires lines { (length rows.now ≤ 1024) × (length rows.now ≤ length book.now) }
+    requires rows { length rows.now ≤ 1024 }
+    requires lines { length rows.now ≤ length book.now }
     ensures place { result ≡ at + length (records_below rows.now (line_text book.now) (length rows.now)) }
     ensures after { out.new ≡ put out.old at (records_below rows.now (line_text book.now) (length rows.now)) }
     ensures fits { result ≤ length out.old }
@@ -42,7 +43,8 @@ fn set_values(rows: &[Row], book: &mut [Count])
 // the place after them.
 fn put_worked(out: &mut [u8], at: usize, rows: &[Row], book: &mut [Count]) -> usize
     requires room { at + 53300 ≤ length out.old }
-    requires lines { (length rows.now ≤ 1024) × (length book.old ≡ 1024) }
+    requires rows { length rows.now ≤ 1024 }
+    requires lines { length book.old ≡ 1024 }
     ensures place { result ≡ at + length (worked rows.now) }
     ensures after { out.new ≡ put out.old at (worked rows.now) }
     ensures fits { result ≤ length out.old }
@@ -57,7 +59,9 @@ fn put_worked(out: &mut [u8], at: usize, rows: &[Row], book: &mut [Count]) -> us
 // Puts the whole report on a text at the start of an output with room for it, and answers how
 // long it is.
 fn put_report(out: &mut [u8], text: &[u8], rows: &mut [Row], book: &mut [Count]) -> usize
-    requires { (length rows.old ≡ 1024) × ((length book.old ≡ 1024) × (53400 ≤ length out.old)) }
+    requires rows { length rows.old ≡ 1024 }
+    requires lines { length book.old ≡ 1024 }
+    requires room { 53400 ≤ length out.old }
     ensures { take result out.new ≡ printed text.now }
 {
     let at = put_run_header(out, 0).unwrap();

@@ -14,7 +14,7 @@ pub enum TextFault {
     TooLong,
     // not three fields, quotes against RFC 4180, or another header
     Record { line: usize },
-    // a value that its field does not allow
+    // a value that its field does not allow; fields are told by number, as a table has them
     Field { line: usize, field: u8 },
     // a good record for which the row table has no place left
     Full { line: usize },
@@ -53,11 +53,10 @@ impl<T> OnLine<T> for Result<T, RecordFault> {
     fn at_line(self, line: usize) -> Result<T, TextFault>
         ensures { result ≡ at_line line self }
     {
-        match self {
-            Ok(value) => Ok(value),
-            Err(RecordFault::Shape) => Err(TextFault::Record { line }),
-            Err(RecordFault::Field(field)) => Err(TextFault::Field { line, field }),
-        }
+        self.map_err(|fault| match fault {
+            RecordFault::Shape => TextFault::Record { line },
+            RecordFault::Field(field) => TextFault::Field { line, field },
+        })
     }
 }
 

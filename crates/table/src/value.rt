@@ -19,7 +19,8 @@ pub fn read_kind(raw: &[u8]) -> Option<Kind>
     }
 }
 
-// The number that decimal digits write, without a leading zero, if it fits.
+// The number that decimal digits write, without a leading zero, if it fits. By hand, since `parse`
+// takes a sign and leading zeros, and a chain with `try_fold` leaves the sum unproved.
 fn read_number(raw: &[u8]) -> Option<u16>
     ensures { result ≡ within 0 65535 (number_of raw.now) }
 {

@@ -12,7 +12,8 @@ use total::{OutputRefusal, number_len, put_bytes, put_pieces};
 // Why rows are not written.
 #[derive(Clone, Copy, PartialEq, Eq, Debug)]
 pub enum WriteFault {
-    // the first value that no job table can hold, by the line and the field that it would have
+    // the first value that no job table can hold, by the line and the number of the field that it
+    // would have
     Field { line: usize, field: u8 },
     // the output is too short
     Short,

@@ -105,6 +105,7 @@ fn gather<S: JobSource, K: Total + Drop>(source: &S, book: &[K], f: usize) -> K
     let end = f + row_at(source, f).size as usize;
     let mut sum = K::nothing();
     let mut r = f + 1;
+    // a walk that steps over what lies in a finish row, so no range gives its rows
     while r < end {
         let x = row_at(source, r);
         sum = with_row(sum, x, &book[r]);
@@ -121,6 +122,7 @@ fn fill_lines<S: JobSource, K: Total + Drop>(source: &S, book: &mut [K])
     ensures after { map K.Total.meaning book.new ≡ filled K.Total.none K.Total.joined K.Total.sealed (S.JobSource.rows source.now) (map K.Total.meaning book.old) }
     ensures same { (k : ℕ) (d : K) → keeps_line (S.JobSource.rows source.now) k ≡ true → slice_index_or book.new k d ≡ slice_index_or book.old k d }
 {
+    // by number, since a source has no slice of its rows to go over
     for r in (0..source.len()).rev() {
         match row_at(source, r).kind() {
             Some(Kind::Finish) => book[r] = gather(source, book, r),

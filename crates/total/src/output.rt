@@ -39,7 +39,9 @@ pub fn has_room(out: &[u8], at: usize, count: usize) -> bool
 }
 
 // Puts the bytes into the output from `at` on, and answers the place after them. Where they have
-// no room the output stays as it was.
+// no room the output stays as it was. The output and the place are two parameters here and above:
+// each function of a struct that holds the `&mut` would promise two things more, of the place and
+// of the reference.
 pub fn put_bytes(out: &mut [u8], at: usize, bytes: &[u8]) -> Result<usize, OutputRefusal>
     ensures result { result ≡ put_end out.old at bytes.now }
     ensures after { out.new ≡ put out.old at bytes.now }

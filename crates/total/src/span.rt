@@ -96,6 +96,7 @@ impl Span {
     }
 }
 
+// By hand, since spans are equal where they mean the same, whatever their fields hold.
 impl PartialEq for Span {
     ghost eq = { on span_meaning years_eq };
 

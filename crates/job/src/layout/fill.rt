@@ -21,6 +21,7 @@ pub(super) fn fill_entries<S: JobSource>(
 {
     entries.clear();
     entries.push(Entry::first(row_at(source, 0)));
+    // by number, since a source has no slice of its rows to go over
     for r in 1..source.len() {
         let p = nearest[r];
         let entry = entries[p as usize].inner(p, row_at(source, r));
