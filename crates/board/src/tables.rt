@@ -91,6 +91,8 @@ impl Tables {
         self.progress.get(t).copied().unwrap_or_default().task
     }
 
+    // The task and the live number have a pair of functions each, since each is an act of the rules
+    // under its own name.
     pub fn set_task(&mut self, t: usize, task: TaskState)
         ensures { self.new ≡ with_task self.old t task }
     {

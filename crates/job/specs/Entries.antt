@@ -41,6 +41,7 @@ pub record AroundRow (rows : List Row) (r : ℕ) (o : Option Around) : Type 0 wh
   pub near : option_map (λ (a : Around). a.nearest) o ≡ nearest rows r
   pub fin : option_map (λ (a : Around). a.finish) o ≡ finish rows r
   pub own : option_map (λ (a : Around). a.task) o ≡ task rows r
+  deriving IsProp as AroundRow-prop
 
 pub record EntryOf (rows : List Row) (r : ℕ) (e : Entry) : Type 0 where
   pub here : e.row ≡ row rows r
@@ -49,3 +50,4 @@ pub record EntryOf (rows : List Row) (r : ℕ) (e : Entry) : Type 0 where
 pub record LaidOut (entries : List Entry) : Type 0 where
   pub lawful : 1 ≤ length (entry_rows entries) → Lawful (entry_rows entries)
   pub each : (r : ℕ) → r < length (entry_rows entries) → AroundRow (entry_rows entries) r (entry entries r).around
+  deriving IsProp as LaidOut-prop

@@ -2,6 +2,7 @@
 ghost use Rattle.std.specs.Prelude.{◌≡◌};
 ghost use Rattle.job.specs.Entries.{first_entry, inner_entry};
 
+use crate::kind::Kind;
 use crate::row::Row;
 
 // What the rules ask of a row that others enclose: its nearest enclosing row, its finish and its
@@ -41,12 +42,16 @@ impl Entry {
             },
             Some(outer) => Around {
                 nearest: p,
-                finish: if self.row.is_finish() {
+                finish: if self.row.is(Kind::Finish) {
                     p
                 } else {
                     outer.finish
                 },
-                task: if self.row.is_async() { p } else { outer.task },
+                task: if self.row.is(Kind::Async) {
+                    p
+                } else {
+                    outer.task
+                },
             },
         };
         Entry {

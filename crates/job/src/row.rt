@@ -1,7 +1,7 @@
 // One row of a job.
 ghost use Rattle.std.specs.Prelude.{◌≡◌, ◌&&◌, ◌==◌};
-ghost use Rattle.job.specs.Kinds.{kind_in};
-ghost use Rattle.job.specs.Rows.{is_work, is_finish, is_async};
+ghost use Rattle.job.specs.Kinds.{kind_in, kind_number};
+ghost use Rattle.job.specs.Rows.{is_finish};
 ghost use Rattle.job.specs.Lawful.{known_kind, own_shape};
 
 use crate::kind::Kind;
@@ -24,29 +24,18 @@ impl Row {
         Kind::try_from(self.kind).ok()
     }
 
-    pub fn is_work(self) -> bool
-        ensures { result ≡ is_work self }
+    // Whether the row is of this kind.
+    pub fn is(self, kind: Kind) -> bool
+        ensures { result ≡ (self.kind == kind_number kind) }
     {
-        self.kind == u8::from(Kind::Work)
-    }
-
-    pub fn is_finish(self) -> bool
-        ensures { result ≡ is_finish self }
-    {
-        self.kind == u8::from(Kind::Finish)
-    }
-
-    pub fn is_async(self) -> bool
-        ensures { result ≡ is_async self }
-    {
-        self.kind == u8::from(Kind::Async)
+        self.kind == u8::from(kind)
     }
 
     // Whether the row is a finish row that holds a whole job of so many rows.
     pub fn is_whole(self, count: usize) -> bool
         ensures { result ≡ (is_finish self && self.size == count) }
     {
-        self.is_finish() && self.size as usize == count
+        self.is(Kind::Finish) && self.size as usize == count
     }
 
     // Whether the kind is one of the three and the size counts at least the row itself.

@@ -4,7 +4,7 @@ ghost use Rattle.job.specs.Rows.{row};
 ghost use Rattle.total.specs.Outputs.{put};
 ghost use Rattle.runs.specs.Reports.{line_text, records_below, worked, printed};
 
-use job::{MOST_ROWS, Row, TableSource};
+use job::{Kind, MOST_ROWS, Row, TableSource};
 use std::alloc::{AllocError, Global};
 use table::{put_refused_record, put_run_header, put_total_record, read_rows};
 use total::{Count, Total, fill_serial_totals};
@@ -20,7 +20,7 @@ fn put_totals(out: &mut [u8], at: usize, rows: &[Row], book: &[Count]) -> usize
 {
     let mut place = at;
     for (r, row) in rows.iter().enumerate() {
-        if row.is_finish() {
+        if row.is(Kind::Finish) {
             place = put_total_record(out, place, r, &book[r]).unwrap();
         }
     }

@@ -86,7 +86,7 @@ fn next_row(x: Row, r: usize) -> usize
     requires { r < 1024 }
     ensures { result ≡ (if is_finish x then r + x.size else r + 1) }
 {
-    if x.is_finish() {
+    if x.is(Kind::Finish) {
         r + x.size as usize
     } else {
         r + 1

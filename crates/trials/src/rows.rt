@@ -10,7 +10,8 @@ pub fn show(rt: &HostRuntime, before: &str, row: Row) -> anyhow::Result<()> {
     Ok(())
 }
 
-// A row of any kind, size and mark, lawful or not.
+// A row of any kind, size and mark, lawful or not: its kind is a number, so that there are rows of
+// no kind.
 pub fn row(kind: u8, size: u16, mark: u8) -> Row {
     Row { size, kind, mark }
 }

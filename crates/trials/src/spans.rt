@@ -1,6 +1,6 @@
 // Spans of years: made, sealed, and totalled in a series.
 use crate::rows::{finish, task, work};
-use job::{Refusal, Row, TableSource};
+use job::{Kind, Refusal, TableSource};
 use std::io::Write;
 use table::put_total_record;
 use total::{Printed, Span, Total, fill_serial_totals};
@@ -101,7 +101,7 @@ fn series(rt: &HostRuntime) -> anyhow::Result<()> {
     let filled = fill_serial_totals(&TableSource { table: &rows }, &mut book).is_ok();
     println!(rt; "series filled: {filled}")?;
     for (r, (row, total)) in rows.iter().zip(&book).enumerate() {
-        if row.is_finish() {
+        if row.is(Kind::Finish) {
             let mut out = [46u8; 43];
             match put_total_record(&mut out, 0, r, total) {
                 Ok(end) => println!(rt; "record of {end} bytes")?,
