@@ -71,7 +71,8 @@ fn put_report(out: &mut [u8], text: &[u8], rows: &mut [Row], book: &mut [Count])
     }
 }
 
-// The room for any report: the header, and 1,024 total records of a count.
+// The room for any report: the header, and 1,024 total records of a count. Records are put into a
+// lent output, so a report lends one with room for any and cuts it once.
 const REPORT_ROOM: usize = 53400;
 
 // What is printed for a job table: the header of the run table, and then the total record of each
