@@ -59,13 +59,7 @@ impl Tables {
     pub fn new() -> Tables
         ensures { result ≡ no_board }
     {
-        Tables {
-            job: Layout::new(),
-            progress: ArrayVec::new(),
-            workers: ArrayVec::new(),
-            figures: Figures::default(),
-            finished: false,
-        }
+        Tables::default()
     }
 
     // What worker w does. Each call on a worker asks that there is one: a type for such a number

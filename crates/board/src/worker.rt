@@ -43,14 +43,7 @@ impl Worker {
     pub fn new() -> Worker
         ensures { result ≡ no_worker }
     {
-        Worker {
-            preempted: Deque::new(),
-            fresh: Deque::new(),
-            state: WorkerState::Idle,
-            spawns: 0,
-            steals: 0,
-            policy: Policy::HelpFirst,
-        }
+        Worker::default()
     }
 
     // What it does.

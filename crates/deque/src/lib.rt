@@ -20,7 +20,7 @@ pub enum PushError {
 
 // A deque: its owner puts rows to its bottom and takes them from there, and others take from its
 // top. The rows lie in a ring of slots, the bottom first: an `ArrayVec` would move all of them at
-// each push to the bottom.
+// each push to the bottom, and the library's circular buffer lies on the heap.
 #[derive(Clone, Debug, Drop)]
 pub struct Deque {
     slots: [u16; ROOM],

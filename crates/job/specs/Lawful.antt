@@ -89,7 +89,6 @@ Judged rows (Err (Unlawful r)) = LowestUnlawful rows r
 -- the entry of row 0, which nothing encloses, says nothing
 pub record NearestRows (rows : List Row) (table : List ℕ) : Type 0 where
   pub lawful : Lawful rows
-  pub sized : length table ≡ most_rows
   pub near : (q : ℕ) → 0 < q → q < length rows → nearest rows q ≡ Some (slice_index table q)
 
 abbrev pub Nests : List Row → Type 0

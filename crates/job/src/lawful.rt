@@ -78,10 +78,9 @@ fn is_lawful<S: JobSource>(source: &S, r: usize, p: usize) -> bool
 
 // The nearest row that encloses r, from the table of the nearest rows before r: what has ended by
 // r is left behind, one row at a time.
-fn climb<S: JobSource>(source: &S, table: &[u16], r: usize) -> usize
+fn climb<S: JobSource>(source: &S, table: &[u16; MOST_ROWS], r: usize) -> usize
     requires later { (0 < r) × (r < 1024) }
     requires whole { r < end (S.JobSource.rows source.now) 0 }
-    requires sized { length table.now ≡ 1024 }
     requires tabled { (q : ℕ) → 0 < q → q < r → nearest (S.JobSource.rows source.now) q ≡ Some (slice_index table.now q) }
     ensures { nearest (S.JobSource.rows source.now) r ≡ Some result }
 {
@@ -92,7 +91,8 @@ fn climb<S: JobSource>(source: &S, table: &[u16], r: usize) -> usize
     p
 }
 
-// Where row r ends.
+// Where row r ends. That r is below 1,024 is asked here and above: a type for such numbers would be
+// asked of every source, which answers any number.
 #[tactic(auto, unfolding(crate::specs::Rows::end))]
 fn end_at<S: JobSource>(source: &S, r: usize) -> usize
     requires { r < 1024 }

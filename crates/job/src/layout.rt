@@ -40,9 +40,7 @@ impl Layout {
     pub fn new() -> Layout
         ensures { result ≡ [] }
     {
-        Layout {
-            entries: ArrayVec::new(),
-        }
+        Layout::default()
     }
 
     // Lays a job out in the place of the one before, unless it is refused.
@@ -82,6 +80,7 @@ impl Layout {
     pub fn end(&self, r: usize) -> usize
         ensures { result ≡ end self.now r }
     {
+        // by cases, since past the last row nothing bounds r
         match self.entries.get(r) {
             Some(entry) => r + entry.row.size as usize,
             None => r,

@@ -24,7 +24,7 @@ pub struct Answer {
     pub action: Action,
     // the row opened, spawned, closed, waited for, ended or stolen
     pub row: usize,
-    // the pair that every answer has by rule: the finish row closed, and the task that the worker
+    // the pair that every step answers by rule: the finish row closed, and the task that the worker
     // now has
     pub outcome: (Option<usize>, Option<usize>),
 }

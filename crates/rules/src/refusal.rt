@@ -65,6 +65,7 @@ impl Refusal for DealRefusal {
     }
 }
 
+// By hand, since a clause says what it gives.
 impl From<JobRefusal> for DealRefusal {
     ghost from_gives = { λ e r. r ≡ Job e };
 

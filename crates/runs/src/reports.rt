@@ -19,6 +19,7 @@ fn put_totals(out: &mut [u8], at: usize, rows: &[Row], book: &[Count]) -> usize
     ensures fits { result ≤ length out.old }
 {
     let mut place = at;
+    // the line by its number, since of a zipped slice a proof knows too little
     for (r, row) in rows.iter().enumerate() {
         if row.is(Kind::Finish) {
             place = put_total_record(out, place, r, &book[r]).unwrap();
@@ -32,6 +33,8 @@ fn set_values(rows: &[Row], book: &mut [Count])
     requires { length rows.now ≤ length book.old }
     ensures { (k : ℕ) → k < length rows.now → (slice_index_or book.new k (record { value = 0 })).value ≡ (row rows.now k).mark }
 {
+    // the line by its number, since a proof knows nothing of what is written through an adapter of
+    // `iter_mut`
     for (r, row) in rows.iter().enumerate() {
         book[r] = Count {
             value: u64::from(row.mark),

@@ -32,7 +32,7 @@ pub struct Field<'a> {
 pub enum FieldFault {
     // its quotes are against RFC 4180
     Quotes,
-    // its value is not allowed in the field of this number
+    // its value is not allowed in the field of this number, which is told
     Value(u8),
 }
 

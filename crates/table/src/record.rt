@@ -15,10 +15,11 @@ use job::Row;
 pub enum RecordFault {
     // not three fields, or quotes against RFC 4180
     Shape,
-    // the first field, by its number, whose value is not allowed
+    // the first field whose value is not allowed, by the number that is told
     Field(u8),
 }
 
+// By hand, since a clause says what it gives.
 impl From<FieldFault> for RecordFault {
     ghost from_gives = { λ f r. r ≡ of_field f };
 

@@ -1,5 +1,6 @@
 // The records of a run table, put into a lent output. A record is measured before its first byte
-// is put, so that an output that is too short stays as it was.
+// is put, so that an output that is too short stays as it was. An output and a place in it are two
+// parameters, as `put_bytes` has them.
 ghost use Rattle.std.specs.Prelude.{◌≡◌, ◌+◌, ◌-◌, ◌^◌, ◌≤◌, min, true, length, is_ok, nat_le};
 ghost use Rattle.job.specs.Refusals.{place};
 ghost use Rattle.total.specs.Outputs.{put, put_end};

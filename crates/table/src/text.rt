@@ -43,7 +43,7 @@ impl Refusal for TextFault {
     }
 }
 
-// A record's result as its text's.
+// A record's result as its text's: a trait, so that it is said where the result is passed up.
 trait OnLine<T> {
     // A fault gets the record's line.
     fn at_line(self, line: usize) -> Result<T, TextFault>;

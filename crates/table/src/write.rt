@@ -13,7 +13,7 @@ use total::{OutputRefusal, number_len, put_bytes, put_pieces};
 #[derive(Clone, Copy, PartialEq, Eq, Debug)]
 pub enum WriteFault {
     // the first value that no job table can hold, by the line and the number of the field that it
-    // would have
+    // would have, which are told
     Field { line: usize, field: u8 },
     // the output is too short
     Short,
@@ -39,6 +39,7 @@ impl Refusal for WriteFault {
     }
 }
 
+// By hand, since a clause says what it gives.
 impl From<OutputRefusal> for WriteFault {
     ghost from_gives = { λ e f. f ≡ Short };
 
@@ -95,7 +96,8 @@ fn row_len(row: Row) -> usize
 }
 
 // Whether the table of these rows has no more bytes than there is room for. The room that is left
-// is counted down, since the bytes might be more than a number holds.
+// is counted down, since the bytes might be more than a number holds. Pieces are measured likewise;
+// one function for both would say in its contract what an iterator of lengths yields.
 fn table_fits(rows: &[Row], room: usize) -> bool
     ensures { result ≡ nat_le (length (table_text rows.now)) room }
 {

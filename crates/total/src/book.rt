@@ -38,6 +38,7 @@ impl Refusal for BookRefusal {
     }
 }
 
+// By hand, since a clause says what it gives.
 impl From<JobRefusal> for BookRefusal {
     ghost from_gives = { λ e r. r ≡ Job e };
 

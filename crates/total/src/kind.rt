@@ -46,7 +46,7 @@ pub trait Printed: Total {
     fn text_len(&self) -> usize
         ensures { result ≡ length (text self.now) };
 
-    // Puts the text into the output, as `put_bytes` does its bytes.
+    // Puts the text into the output from a place on, as `put_bytes` does its bytes.
     fn write(&self, out: &mut [u8], at: usize) -> Result<usize, OutputRefusal>
         ensures result { result ≡ put_end out.old at (text self.now) }
         ensures after { out.new ≡ put out.old at (text self.now) };

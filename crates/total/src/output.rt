@@ -94,7 +94,8 @@ pub fn put_number<I: Integer>(out: &mut [u8], at: usize, n: I) -> Result<usize, 
     ensures after { out.new ≡ put out.old at (I.Integer.text n) }
 {
     let mut buffer = Buffer::new();
-    put_bytes(out, at, buffer.format(n).as_bytes())
+    let digits = buffer.format(n).as_bytes();
+    put_bytes(out, at, digits)
 }
 
 // How many bytes n has in decimal.

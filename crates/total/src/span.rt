@@ -186,14 +186,8 @@ impl Printed for Span {
         }
         let mut first = Buffer::new();
         let mut last = Buffer::new();
-        put_pieces(
-            out,
-            at,
-            &[
-                first.format(self.first).as_bytes(),
-                b"/",
-                last.format(self.last).as_bytes(),
-            ],
-        )
+        let first = first.format(self.first).as_bytes();
+        let last = last.format(self.last).as_bytes();
+        put_pieces(out, at, &[first, b"/", last])
     }
 }

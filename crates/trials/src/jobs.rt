@@ -46,11 +46,15 @@ fn first_rows(rt: &HostRuntime) -> anyhow::Result<()> {
 fn later_rows(rt: &HostRuntime) -> anyhow::Result<()> {
     judged(rt, "kind 3", &[finish(3, 0), work(0), row(3, 1, 0)])?;
     judged(rt, "size 0", &[finish(3, 0), finish(0, 0), work(0)])?;
-    judged(rt, "work of size 2", &[finish(3, 0), row(0, 2, 0), work(0)])?;
+    judged(
+        rt,
+        "work of size 2",
+        &[finish(3, 0), Row { size: 2, ..work(0) }, work(0)],
+    )?;
     judged(
         rt,
         "a task with a mark",
-        &[finish(3, 0), work(0), row(2, 1, 1)],
+        &[finish(3, 0), work(0), Row { mark: 1, ..task(1) }],
     )?;
     judged(rt, "past the job", &[finish(3, 0), work(0), task(2)])?;
     judged(
@@ -66,7 +70,12 @@ fn later_rows(rt: &HostRuntime) -> anyhow::Result<()> {
     judged(
         rt,
         "the lower of two",
-        &[finish(4, 0), work(0), row(2, 1, 1), row(3, 1, 0)],
+        &[
+            finish(4, 0),
+            work(0),
+            Row { mark: 1, ..task(1) },
+            row(3, 1, 0),
+        ],
     )
 }
 

@@ -43,7 +43,14 @@ fn table(rt: &HostRuntime, name: &str, rows: &[Row], size: usize) -> anyhow::Res
 }
 
 fn tables(rt: &HostRuntime) -> anyhow::Result<()> {
-    let rows = [finish(3, 0), row(2, 1024, 255), work(9)];
+    let rows = [
+        finish(3, 0),
+        Row {
+            mark: 255,
+            ..task(1024)
+        },
+        work(9),
+    ];
     table(rt, "three rows in a longer output", &rows, 60)?;
     table(rt, "three rows in an output that fits", &rows, 54)?;
     table(rt, "three rows in an output one byte short", &rows, 53)?;

@@ -12,7 +12,7 @@ use arrayvec::ArrayVec;
 // follows from the entry of its nearest row.
 pub(super) fn fill_entries<S: JobSource>(
     source: &S,
-    nearest: &[u16],
+    nearest: &[u16; MOST_ROWS],
     entries: &mut ArrayVec<Entry, MOST_ROWS>,
 )
     requires { NearestRows (S.JobSource.rows source.now) nearest.now }

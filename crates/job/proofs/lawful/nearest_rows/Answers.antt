@@ -20,7 +20,7 @@ climb-p-requires g c =
     let rows = g.S.JobSource.rows c.args.source.now in
     let few = counted_is (length rows) _ c.in_ok-count.ensures in
     let all = whole-end rows (sym c.if-not-first_is_lawful.ensures) in
-    record { later = (omega arith, omega arith); whole = omega arith; sized = c.loop-r.invariant.0; tabled = c.loop-r.invariant.2 }
+    record { later = (omega arith, omega arith); whole = omega arith; tabled = c.loop-r.invariant.2 }
 
 pub returns-then-not-is_lawful-clause-result : goal.returns-then-not-is_lawful-clause-result
 returns-then-not-is_lawful-clause-result g c =
@@ -60,4 +60,4 @@ returns g c =
     let few = counted_is (length rows) _ c.in_ok-count.ensures in
     let none = unlawful_none rows (λ q l. c.loop-r.invariant.1 q (omega arith)) in
     let is = verdict_is rows _ c.in_ok-count.ensures None none in
-    record { result = is; near = record { lawful = granted rows is; sized = omega arith; near = λ q later l. c.loop-r.invariant.2 q later (omega arith) } }
+    record { result = is; near = record { lawful = granted rows is; near = λ q later l. c.loop-r.invariant.2 q later (omega arith) } }
