@@ -26,7 +26,8 @@ impl Tables {
         self.set_task(t, s);
     }
 
-    // Where work at task t goes on: where it stopped, or at its beginning.
+    // Where work at task t goes on: where it stopped, or at its beginning. Positions have numbers of
+    // 16 bits, so that t is asked to be one.
     pub fn resumed(&self, t: usize) -> Position
         requires here { t < 1024 }
         requires fits { (resumes self.now.rows t (task self.now t)).next ≤ 1024 }

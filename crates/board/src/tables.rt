@@ -85,8 +85,8 @@ impl Tables {
         self.progress.get(t).copied().unwrap_or_default().task
     }
 
-    // The task and the live number have a pair of functions each, since each is an act of the rules
-    // under its own name.
+    // The task and the live number have a pair of functions each, since the rules read and change
+    // them under names of their own.
     pub fn set_task(&mut self, t: usize, task: TaskState)
         ensures { self.new ≡ with_task self.old t task }
     {

@@ -44,6 +44,7 @@ pub(crate) fn nearest_rows<S: JobSource>(source: &S) -> Result<[u16; MOST_ROWS],
     if !first_is_lawful(source, count) {
         return Err(JobRefusal::Unlawful(0));
     }
+    // a place for each row by its number, of which that of row 0 is never read
     let mut nearest = [0; MOST_ROWS];
     // by number, since a source has no slice of its rows to go over
     for r in 1..count {
