@@ -1,6 +1,6 @@
 // Job tables and records of run tables, written into outputs that just fit and that are one byte
 // too short.
-use crate::rows::{finish, row, work};
+use crate::rows::{finish, row, task, work};
 use job::{JobRefusal, Refusal, Row};
 use std::io::Write;
 use table::{WriteFault, put_refused_record, put_run_header, put_total_record, write_rows};
