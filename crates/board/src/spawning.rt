@@ -49,7 +49,7 @@ impl Tables {
         self.workers[w].count_spawn(&self.figures);
     }
 
-    // The child waits, and the parent goes on.
+    // The child waits, and the parent goes on. The row's number fits the 16 bits of a queue's.
     pub fn help_first(&mut self, w: usize, parent: Position, row: usize)
         requires here { w < length self.old.workers }
         requires room { length (worker self.old w).fresh < 1024 }

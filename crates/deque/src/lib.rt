@@ -7,7 +7,7 @@ ghost use Rattle.deque.specs.Queues.{bottom, above_bottom, top, below_top};
 
 use std::marker::Model;
 
-// The most rows in a deque: as many as a job has. It is no parameter of the type: there is one such
+// The most rows in a deque: as many as a job has, of which this crate knows nothing. It is no parameter of the type: there is one such
 // number, and each `new` would have to ask that it is above 0 and that twice of it fits.
 const ROOM: usize = 1024;
 

@@ -95,8 +95,8 @@ impl Layout {
         self.entries.get(r)?.around
     }
 
-    // The nearest row that encloses r. This, its finish and its task are three calls, since no rule
-    // asks for more than one of them.
+    // The nearest row that encloses r. This, its finish and its task are three calls, since the
+    // rules name the three apart.
     pub fn nearest(&self, r: usize) -> Option<usize>
         ensures { result ≡ nearest self.now r }
     {

@@ -1,5 +1,6 @@
 // The report on a job table: its header, and the totals of its finish rows or the refusal. Rows and
-// their book are two slices throughout, as they are lent to the call that fills a book in.
+// their book, which has a line for each row at least, are two slices throughout, as they are lent to
+// the call that fills a book in.
 ghost use Rattle.std.specs.Prelude.{◌≡◌, ℕ, ◌+◌, ◌*◌, ◌<◌, ◌≤◌, length, take, IfOk, slice_index_or};
 ghost use Rattle.job.specs.Rows.{row};
 ghost use Rattle.total.specs.Outputs.{put};

@@ -45,6 +45,7 @@ fn read_record(text: &[u8]) -> Result<Record<'_>, RecordFault>
     ensures { ok_map as_three result ≡ ok_or (three text.now) RecordFault.Shape }
 {
     let kind = read_field(text)?;
+    // a field that is missing ends the reading of the record right here
     let Some(size) = kind.end.next_field()? else {
         return Err(RecordFault::Shape);
     };

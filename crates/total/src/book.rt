@@ -82,7 +82,7 @@ fn with_row<K: Total + Drop>(sum: K, x: Row, line: &K) -> K
 }
 
 // The row at which a walk through a finish row goes on after row r: past a finish row and all that
-// lies inside it, else at the row after r.
+// lies inside it, else at the row after r, which is a number that a row can have.
 fn next_row(x: Row, r: usize) -> usize
     requires { r < 1024 }
     ensures { result ≡ (if is_finish x then r + x.size else r + 1) }

@@ -136,6 +136,7 @@ impl Total for Span {
     ghost unit = { hull_none };
 
     fn nothing() -> Span {
+        // totals lie in books, so that any fields mean something: these mean no years
         Span { first: 1, last: 0 }
     }
 

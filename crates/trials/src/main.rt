@@ -1,5 +1,6 @@
 // Examples and edge cases, worked by the library and printed, to be held against a stored output
-// that was worked out by hand.
+// that was worked out by hand. Each case prints what it is to show, so that refusals are printed
+// where they are tried, in the words of each.
 #![tactic(auto)]
 
 mod jobs;
