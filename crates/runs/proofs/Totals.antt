@@ -1,5 +1,5 @@
 -- Total records that are put one after the other. Assumes nothing.
-use Rattle.std.proofs.Common.{◌≡◌, ℕ, ◌+◌, ◌*◌, ◌<◌, ◌≤◌, true, false, List, ◌++◌, length, get_or, decimal, sym, ap, ◌∙◌, append-nil, add-one, subst, Ok, arith, length-append}
+use Rattle.std.proofs.Common.{◌≡◌, ℕ, zero, suc, ◌∷◌, [], drop, ◌+◌, ◌*◌, ◌<◌, ◌≤◌, true, false, List, ◌++◌, length, get_or, decimal, sym, ap, ◌∙◌, append-nil, add-one, subst, Ok, arith, length-append}
 use Rattle.std.proofs.lemmas.Bool.{cond-true, cond-false}
 use Rattle.std.proofs.lemmas.Fmt.{length-decimal-le}
 use Rattle.job.specs.declared.row.Row.{Row}
@@ -51,3 +51,16 @@ module _ (rows : List Row) (book : List Count) (out : List ℕ) (at : ℕ) (room
     sofar_other n =
         let same : recs (k + 1) ≡ recs k = ap recs (add-one k) ∙ ap (λ x. recs k ++ x) (cond-false (is_finish (row rows k)) _ _ n) ∙ append-nil (recs k) in
         record { laid = subst (λ xs. Laid out at xs mid m) (sym same) sofar.laid; few = omega (arith, sofar.few, ap length same) }
+
+-- what is left of a list begins with its next element
+front_of : {X : Type 0} (xs : List X) (k : ℕ) (x : X) (ys : List X) (d : X) → drop k xs ≡ x ∷ ys → (k < length xs) × (x ≡ get_or xs k d) × (ys ≡ drop (suc k) xs)
+front_of [] zero x ys d e = cc
+front_of [] (suc k) x ys d e = cc
+front_of (z ∷ xs) zero x ys d e = (omega arith, cc, cc)
+front_of (z ∷ xs) (suc k) x ys d e = let r = front_of xs k x ys d e in (omega (arith, r.0), r.1, r.2)
+
+-- an element is taken off what is left of a list
+pub taken : {X : Type 0} (xs rest : List X) (k next : ℕ) (x : X) (ys : List X) (d : X) → rest ≡ drop k xs → rest ≡ x ∷ ys → next ≡ k + 1 → (k < length xs) × (x ≡ get_or xs k d) × (ys ≡ drop next xs)
+taken xs rest k next x ys d l e n =
+    let r = front_of xs k x ys d (sym l ∙ e) in
+    (r.0, r.1, r.2 ∙ ap (λ j. drop j xs) (sym (n ∙ add-one k)))

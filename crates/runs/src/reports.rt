@@ -21,10 +21,9 @@ fn put_totals(out: &mut [u8], at: usize, rows: &[Row], book: &[Count]) -> usize
     ensures fits { result ≤ length out.old }
 {
     let mut place = at;
-    // the line by its number, since of a zipped slice a proof knows too little
-    for (r, row) in rows.iter().enumerate() {
+    for (r, (row, total)) in rows.iter().zip(book).enumerate() {
         if row.is(Kind::Finish) {
-            place = put_total_record(out, place, r, &book[r]).unwrap();
+            place = put_total_record(out, place, r, total).unwrap();
         }
     }
     place
