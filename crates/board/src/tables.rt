@@ -43,7 +43,7 @@ impl Model for Tables {
     ghost use Rattle.board.specs.declared.tables.Progress.{Progress};
 
     ghost view = { λ t. record {
-      rows = t.job;
+      rows = t.job.rows;
       workers = t.workers.items;
       tasks = map (λ (p : Progress). p.task) t.progress.items;
       lives = map (λ (p : Progress). p.live) t.progress.items;
@@ -51,7 +51,7 @@ impl Model for Tables {
       finished = t.finished;
     } };
 
-    ghost invariant = { λ t. length t.progress.items ≡ length t.job };
+    ghost invariant = { λ t. length t.progress.items ≡ length t.job.rows };
 }
 
 impl Tables {

@@ -30,8 +30,8 @@ impl Model for Worker {
 
     ghost view = { λ x. record {
       state = x.state;
-      preempted = x.preempted;
-      fresh = x.fresh;
+      preempted = x.preempted.rows;
+      fresh = x.fresh.rows;
       spawns = x.spawns;
       steals = x.steals;
       policy = x.policy;

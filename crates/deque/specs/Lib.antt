@@ -1,2 +1,3 @@
 pub mod Deques
 pub mod Queues
+pub mod RingLengths

@@ -1,7 +1,7 @@
 // Double-ended queues of row numbers, in fixed memory.
 #![tactic(auto)]
 
-ghost use Rattle.std.specs.Prelude.{◌≡◌, ◌≤◌, ◌==◌, [], length};
+ghost use Rattle.std.specs.Prelude.{◌≡◌, ◌≤◌, ◌==◌, [], length, IsNone, OnErr};
 ghost use Rattle.deque.specs.Deques.{room, push_answer, pushed};
 ghost use Rattle.deque.specs.Queues.{bottom, above_bottom, top, below_top};
 
@@ -21,30 +21,36 @@ pub enum PushError {
 // A deque: its owner puts rows to its bottom and takes them from there, and others take from its
 // top. The rows lie in a ring of slots, the bottom first: an `ArrayVec` would move all of them at
 // each push to the bottom, and the library's circular buffer lies on the heap.
-#[derive(Clone, Debug, Drop)]
+#[derive(Clone, Copy, Debug)]
 pub struct Deque {
     slots: [u16; ROOM],
     bottom: usize,
     len: usize,
 }
 
-// Clauses see the rows, from the bottom to the top.
+// Clauses see the rows, from the bottom to the top, and where they lie: a view of the rows alone
+// would forget that, and such a type is not `Copy`.
 impl Model for Deque {
-    ghost use Rattle.std.specs.Prelude.{◌<◌, ◌≤◌, ℕ, List};
-    ghost use Rattle.deque.specs.Deques.{room, ring};
+    ghost use Rattle.std.specs.Prelude.{◌<◌, ◌≤◌, length};
+    ghost use Rattle.deque.specs.Deques.{room, Held, ring};
+    ghost use Rattle.deque.specs.RingLengths.{length-ring};
 
-    ghost Value = { List ℕ };
+    ghost Value = { Held };
 
-    ghost view = { λ d. ring d.slots d.bottom d.len };
+    ghost view = { λ d. record { rows = ring d.slots d.bottom d.len; slots = d.slots; bottom = d.bottom } };
 
     ghost invariant = { λ d. (d.bottom < room) × (d.len ≤ room) };
+
+    ghost inverse = { λ h. record { slots = h.slots; bottom = h.bottom; len = length h.rows } };
+
+    ghost inverse_ok = { λ d h i. record { slots = d.slots; bottom = d.bottom; len = length-ring d.slots d.bottom d.len i } };
 }
 
 // By hand, since an array of so many slots has none to derive it from.
 impl Default for Deque {
     ghost use Rattle.std.specs.Prelude.{◌≡◌, []};
 
-    ghost is_default = { λ d. d ≡ [] };
+    ghost is_default = { λ d. d.rows ≡ [] };
 
     fn default() -> Deque {
         Deque::new()
@@ -54,7 +60,7 @@ impl Default for Deque {
 impl Deque {
     // A deque with no rows.
     pub fn new() -> Deque
-        ensures { result ≡ [] }
+        ensures { result.rows ≡ [] }
     {
         Deque {
             slots: [0; ROOM],
@@ -65,14 +71,14 @@ impl Deque {
 
     // Takes all rows out.
     pub fn clear(&mut self)
-        ensures { self.new ≡ [] }
+        ensures { self.new.rows ≡ [] }
     {
         self.len = 0;
     }
 
     // How many rows there are.
     pub fn len(&self) -> usize
-        ensures rows { result ≡ length self.now }
+        ensures rows { result ≡ length self.now.rows }
         ensures fits { result ≤ room }
     {
         self.len
@@ -80,14 +86,14 @@ impl Deque {
 
     // Whether there is no row.
     pub fn is_empty(&self) -> bool
-        ensures { result ≡ (length self.now == 0) }
+        ensures { result ≡ (length self.now.rows == 0) }
     {
         self.len == 0
     }
 
     // The row at the bottom.
     pub fn bottom(&self) -> Option<u16>
-        ensures { result ≡ bottom self.now }
+        ensures { result ≡ bottom self.now.rows }
     {
         if self.is_empty() {
             None
@@ -98,8 +104,9 @@ impl Deque {
 
     // Puts a row to the bottom, unless the deque is full.
     pub fn push_bottom(&mut self, row: u16) -> Result<(), PushError>
-        ensures result { result ≡ push_answer self.old }
-        ensures after { self.new ≡ pushed self.old row }
+        ensures result { result ≡ push_answer self.old.rows }
+        ensures after { self.new.rows ≡ pushed self.old.rows row }
+        ensures kept { OnErr result (self.new ≡ self.old) }
     {
         if self.len == ROOM {
             return Err(PushError::Full);
@@ -112,8 +119,9 @@ impl Deque {
 
     // Takes the row at the bottom out.
     pub fn pop_bottom(&mut self) -> Option<u16>
-        ensures result { result ≡ bottom self.old }
-        ensures after { self.new ≡ above_bottom self.old }
+        ensures result { result ≡ bottom self.old.rows }
+        ensures after { self.new.rows ≡ above_bottom self.old.rows }
+        ensures kept { IsNone result → self.new ≡ self.old }
     {
         let row = self.bottom()?;
         self.bottom = (self.bottom + 1) % ROOM;
@@ -123,8 +131,9 @@ impl Deque {
 
     // Takes the row at the top out.
     pub fn pop_top(&mut self) -> Option<u16>
-        ensures result { result ≡ top self.old }
-        ensures after { self.new ≡ below_top self.old }
+        ensures result { result ≡ top self.old.rows }
+        ensures after { self.new.rows ≡ below_top self.old.rows }
+        ensures kept { IsNone result → self.new ≡ self.old }
     {
         if self.is_empty() {
             return None;

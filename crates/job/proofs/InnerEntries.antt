@@ -1,7 +1,6 @@
 -- The entries of a job, each from that of its nearest enclosing row. Assumes nothing.
-use Rattle.std.proofs.Common.{◌≡◌, ℕ, ◌+◌, ◌<◌, Bool, true, false, ◌||◌, if◌then◌else◌, List, [], ◌∷◌, ◌++◌, length, Some, None, Option, sym, refl, ap, ◌∙◌, subst, ⊎_elim, arith}
-use Rattle.std.proofs.lemmas.List.{get_or-map, length-map, ext_get_or}
-use Rattle.std.proofs.lemmas.Grind.{common_steps}
+use Rattle.std.proofs.Common.{◌≡◌, ℕ, ◌+◌, ◌<◌, ◌≤◌, Bool, true, false, ◌||◌, if◌then◌else◌, List, length, set, take, Some, None, Option, sym, refl, ap, ◌∙◌, subst, ⊎_elim, arith, length-take-le}
+use Rattle.std.proofs.lemmas.List.{get_or-map, get_or-take, get_or-set_same, get_or-set_other, length-map, ext_get_or}
 use Rattle.std.proofs.lemmas.Bool.{cases_eq, ne_eqb}
 use Rattle.job.specs.declared.entry.Around.{Around}
 use Rattle.job.specs.declared.entry.Entry.{Entry}
@@ -65,36 +64,30 @@ module _ (rows : List Row) (law : Lawful rows) (r p : ℕ) (l : r < length rows)
   inner_right e x of is =
       record { here = is; right = subst (λ y. AroundRow rows r (Some (inner_around y p e.around))) (sym of.here) (around_inner e.around of.right) }
 
--- the entries of the first n rows
-pub record Entered (rows : List Row) (entries : List Entry) (n : ℕ) : Type 0 where
-  pub count : length entries ≡ n
-  pub each : (q : ℕ) → q < n → EntryOf rows q (entry entries q)
+-- one entry more
+pub entries_more : (rows : List Row) (entries : List Entry) (r : ℕ) (e : Entry) → r < length entries → ((q : ℕ) → q < r → EntryOf rows q (entry entries q)) → EntryOf rows r e → (q : ℕ) → q < r + 1 → EntryOf rows q (entry (set entries r e) q)
+entries_more rows entries r e room before of q l =
+    ⊎_elim
+    (λ same. subst (λ k. EntryOf rows k (entry (set entries r e) k)) (sym same) (subst (EntryOf rows r) (sym (get_or-set_same entries r e no_entry room)) of))
+    (λ other. subst (EntryOf rows q) (sym (get_or-set_other entries r q e no_entry other)) (before q (omega arith)))
+    (cases_eq q r)
 
-pub entered-first : (rows : List Row) (e : Entry) → EntryOf rows 0 e → Entered rows (e ∷ []) 1
-entered-first rows e of = record { count = refl; each = λ q l. subst (λ k. EntryOf rows k (entry (e ∷ []) k)) (omega arith) of }
+-- all entries of a job
+module _ (rows : List Row) (entries : List Entry) (n : ℕ) (count : n ≡ length rows) (room : n ≤ length entries) (all : (q : ℕ) → q < n → EntryOf rows q (entry entries q)) where
+  taken : (q : ℕ) → q < n → EntryOf rows q (entry (take n entries) q)
+  taken q l = subst (EntryOf rows q) (sym (get_or-take n entries q no_entry l)) (all q l)
 
-module _ (rows : List Row) (entries : List Entry) (n : ℕ) where
-  -- one entry more
-  pub entered_more : (e : Entry) → Entered rows entries n → EntryOf rows n e → Entered rows (entries ++ e ∷ []) (n + 1)
-  entered_more e before of =
+  counted : length (entry_rows (take n entries)) ≡ n
+  counted = length-map (take n entries) (λ (e : Entry). e.row) ∙ length-take-le n entries room
+
+  pub rows-entered : entry_rows (take n entries) ≡ rows
+  rows-entered =
+      ext_get_or blank (entry_rows (take n entries)) rows (counted ∙ count)
+      (λ k l. get_or-map (λ (e : Entry). e.row) (take n entries) k no_entry blank (omega (arith, length-take-le n entries room, counted)) ∙ (taken k (omega (arith, counted))).here)
+
+  pub laid_out : Lawful rows → LaidOut (take n entries)
+  laid_out law =
       record {
-        count = grind (arith, common_steps);
-        each = λ q l. ⊎_elim
-            (λ same. let here : entry (entries ++ e ∷ []) q ≡ e = grind (arith, common_steps) in subst (EntryOf rows q) (sym here) (subst (λ k. EntryOf rows k e) (sym same) of))
-            (λ other. let here : entry (entries ++ e ∷ []) q ≡ entry entries q = grind (arith, common_steps) in subst (EntryOf rows q) (sym here) (before.each q (omega arith)))
-            (cases_eq q n);
+        lawful = λ some. subst Lawful (sym rows-entered) law;
+        each = λ q l. subst (λ x. AroundRow x q (entry (take n entries) q).around) (sym rows-entered) (taken q (omega (arith, counted))).right;
       }
-
-  -- all entries of a job
-  module _ (all : Entered rows entries n) (count : n ≡ length rows) where
-    pub rows-entered : entry_rows entries ≡ rows
-    rows-entered =
-        ext_get_or blank (entry_rows entries) rows (length-map entries (λ (e : Entry). e.row) ∙ all.count ∙ count)
-        (λ k l. get_or-map (λ (e : Entry). e.row) entries k no_entry blank (omega (arith, length-map entries (λ (e : Entry). e.row))) ∙ (all.each k (omega (arith, all.count, length-map entries (λ (e : Entry). e.row)))).here)
-
-    pub laid_out : Lawful rows → LaidOut entries
-    laid_out law =
-        record {
-          lawful = λ some. subst Lawful (sym rows-entered) law;
-          each = λ q l. subst (λ x. AroundRow x q (entry entries q).around) (sym rows-entered) (all.each q (omega (arith, ap length rows-entered))).right;
-        }

@@ -9,7 +9,6 @@
 --     Lawful rows                from 1 to 1,024 rows, all of them lawful
 --     row_count n                a number of rows, refused where it is 0 or above 1,024
 --     verdict lowest             what is answered of the lowest unlawful row, or of none
---     judgement answer           an answer without what it brings where the job is lawful
 --     checked rows               what the check answers
 --     Judged rows r              what each answer of the check says of the job
 --     NearestRows rows table    a lawful job, and a table of the nearest row that encloses each
@@ -66,11 +65,6 @@ row_count n = cond (countable n) (Ok n) (Err RowCount)
 abbrev pub verdict : Option ℕ → Result (Unit {0}) JobRefusal
 verdict None = Ok tt
 verdict (Some r) = Err (Unlawful r)
-
--- an answer as a bare judgement, whatever it brings where the job is lawful
-abbrev pub judgement : {X : Type 0} → Result X JobRefusal → Result (Unit {0}) JobRefusal
-judgement (Ok x) = Ok tt
-judgement (Err e) = Err e
 
 abbrev pub checked : List Row → Result (Unit {0}) JobRefusal
 checked rows = cond (countable (length rows)) (verdict (lowest_unlawful rows)) (Err RowCount)

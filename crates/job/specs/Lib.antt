@@ -1,4 +1,5 @@
 pub mod Entries
+pub mod EntryCounts
 pub mod Kinds
 pub mod Lawful
 pub mod Layouts

@@ -1,6 +1,6 @@
 // The check of a job: its number of rows, and the lowest unlawful row.
 ghost use Rattle.std.specs.Prelude.{◌≡◌, ℕ, ◌<◌, ◌≤◌, length, Some, Ok, IfOk, slice_index};
-ghost use Rattle.job.specs.Lawful.{row_count, checked, lawful_row, judgement, Judged, NearestRows, Nests};
+ghost use Rattle.job.specs.Lawful.{row_count, checked, lawful_row, Judged, NearestRows, Nests};
 ghost use Rattle.job.specs.Rows.{row, end, nearest};
 
 use crate::refusal::JobRefusal;
@@ -17,8 +17,8 @@ pub fn check<S: JobSource>(source: &S) -> Result<(), JobRefusal>
     ensures judged { Judged (S.JobSource.rows source.now) result }
     ensures nests { result ≡ Ok tt → Nests (S.JobSource.rows source.now) }
 {
-    nearest_rows(source)?;
-    Ok(())
+    let mut nearest = [0; MOST_ROWS];
+    nearest_rows(source, &mut nearest)
 }
 
 // How many rows a job has, refused where there are none or too many.
@@ -33,28 +33,31 @@ pub fn row_count<S: JobSource>(source: &S) -> Result<usize, JobRefusal>
     }
 }
 
-// The nearest enclosing row of each row but row 0; refused as the check says. One pass: each row
-// looks for its own among those that the row before it lies in, so that every row is left behind
-// once.
-pub(crate) fn nearest_rows<S: JobSource>(source: &S) -> Result<[u16; MOST_ROWS], JobRefusal>
-    ensures result { judgement result ≡ checked (S.JobSource.rows source.now) }
-    ensures near { IfOk result (NearestRows (S.JobSource.rows source.now)) }
+// Notes the nearest enclosing row of each row but row 0 in the table; refused as the check says. One
+// pass: each row looks for its own among those that the row before it lies in, so that every row is
+// left behind once. The table is the caller's: as the answer it would be copied, which takes longer
+// than the check of a small job.
+pub(crate) fn nearest_rows<S: JobSource>(
+    source: &S,
+    nearest: &mut [u16; MOST_ROWS],
+) -> Result<(), JobRefusal>
+    ensures result { result ≡ checked (S.JobSource.rows source.now) }
+    ensures near { IfOk result (λ u. NearestRows (S.JobSource.rows source.now) nearest.new) }
 {
     let count = row_count(source)?;
     if !first_is_lawful(source, count) {
         return Err(JobRefusal::Unlawful(0));
     }
-    // a place for each row by its number, of which that of row 0 is never read
-    let mut nearest = [0; MOST_ROWS];
-    // by number, since a source has no slice of its rows to go over
+    // by number, since a source has no slice of its rows to go over; of the table, that of row 0 is
+    // never read
     for r in 1..count {
-        let p = climb(source, &nearest, r);
+        let p = climb(source, nearest, r);
         if !is_lawful(source, r, p) {
             return Err(JobRefusal::Unlawful(r));
         }
         nearest[r] = p as u16;
     }
-    Ok(nearest)
+    Ok(())
 }
 
 // Whether row 0 is lawful; no row encloses it.
