@@ -8,7 +8,7 @@ ghost use Rattle.table.specs.RunTables.{run_header, total_record, refused_record
 
 use itoa::Buffer;
 use job::Refusal;
-use total::{OutputRefusal, Printed, has_room, number_len, put_bytes, put_pieces};
+use total::{OutputRefusal, Printed, has_room, integer_len, put_bytes, put_pieces};
 
 // Puts the header of a run table at a place of the output, and answers the place after it.
 pub fn put_run_header(out: &mut [u8], at: usize) -> Result<usize, OutputRefusal>
@@ -37,7 +37,7 @@ pub fn put_total_record<P: Printed>(
     ensures after { out.new ≡ put out.old at (total_record row (P.Printed.text total.now)) }
     ensures granted { at + (P.Printed.LONGEST + 32) ≤ length out.old → is_ok result ≡ true }
 {
-    if !has_room_around(out, at, 12 + number_len(row), total.text_len()) {
+    if !has_room_around(out, at, 12 + integer_len(row), total.text_len()) {
         return Err(OutputRefusal::TooShort);
     }
     let mut number = Buffer::new();

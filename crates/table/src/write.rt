@@ -7,7 +7,7 @@ ghost use Rattle.table.specs.Texts.{read};
 
 use itoa::Buffer;
 use job::{Kind, Refusal, Row};
-use total::{OutputRefusal, number_len, put_bytes, put_pieces};
+use total::{OutputRefusal, integer_len, put_bytes, put_pieces};
 
 // Why rows are not written.
 #[derive(Clone, Copy, PartialEq, Eq, Debug)]
@@ -92,7 +92,7 @@ fn kind_word(row: Row) -> &'static [u8]
 fn row_len(row: Row) -> usize
     ensures { result ≡ length (row_text row) }
 {
-    kind_word(row).len() + number_len(row.size) + number_len(row.mark) + 4
+    kind_word(row).len() + integer_len(row.size) + integer_len(row.mark) + 4
 }
 
 // Whether the table of these rows has no more bytes than there is room for. The room that is left

@@ -1,5 +1,5 @@
 // Bytes put into a lent output.
-ghost use Rattle.std.specs.Prelude.{◌≡◌, ◌+◌, ◌≤◌, length, nat_le};
+ghost use Rattle.std.specs.Prelude.{◌≡◌, ◌+◌, ◌≤◌, length, decimal, nat_le};
 ghost use Rattle.total.specs.Outputs.{put, put_end, pieced, output_number, output_told};
 
 use itoa::{Buffer, Integer};
@@ -88,8 +88,25 @@ pub fn put_pieces(out: &mut [u8], at: usize, pieces: &[&[u8]]) -> Result<usize, 
     Ok(next)
 }
 
-// Puts n into the output in decimal, as `put_bytes` does.
-pub fn put_number<I: Integer>(out: &mut [u8], at: usize, n: I) -> Result<usize, OutputRefusal>
+// Puts n into the output in decimal, as `put_bytes` does. Where no type is written, a number is of
+// 64 bits.
+pub fn put_number(out: &mut [u8], at: usize, n: u64) -> Result<usize, OutputRefusal>
+    ensures result { result ≡ put_end out.old at (decimal n) }
+    ensures after { out.new ≡ put out.old at (decimal n) }
+{
+    put_integer(out, at, n)
+}
+
+// How many digits n has.
+pub fn number_len(n: u64) -> usize
+    ensures size { result ≡ length (decimal n) }
+    ensures few { result ≤ 20 }
+{
+    integer_len(n)
+}
+
+// Puts an integer of any type into the output in decimal, as `put_bytes` does.
+pub fn put_integer<I: Integer>(out: &mut [u8], at: usize, n: I) -> Result<usize, OutputRefusal>
     ensures result { result ≡ put_end out.old at (I.Integer.text n) }
     ensures after { out.new ≡ put out.old at (I.Integer.text n) }
 {
@@ -98,8 +115,8 @@ pub fn put_number<I: Integer>(out: &mut [u8], at: usize, n: I) -> Result<usize, 
     put_bytes(out, at, digits)
 }
 
-// How many bytes n has in decimal.
-pub fn number_len<I: Integer>(n: I) -> usize
+// How many bytes an integer of any type has in decimal.
+pub fn integer_len<I: Integer>(n: I) -> usize
     ensures size { result ≡ length (I.Integer.text n) }
     ensures few { result ≤ I.Integer.MAX_STR_LEN }
 {

@@ -10,7 +10,7 @@ ghost use Rattle.total.specs.SpansLemmas.{hull_assoc, hull_comm, hull_none, year
 ghost use Rattle.total.specs.SpanTexts.{text_short};
 
 use crate::kind::{Printed, Total};
-use crate::output::{OutputRefusal, number_len, put_bytes, put_pieces};
+use crate::output::{OutputRefusal, integer_len, put_bytes, put_pieces};
 use itoa::Buffer;
 use job::Refusal;
 
@@ -175,7 +175,7 @@ impl Printed for Span {
 
     fn text_len(&self) -> usize {
         if self.has_years() {
-            number_len(self.first) + 1 + number_len(self.last)
+            integer_len(self.first) + 1 + integer_len(self.last)
         } else {
             0
         }
