@@ -22,8 +22,7 @@ fn rows(rt: &HostRuntime, iterations: usize, chunk: usize) -> anyhow::Result<()>
     println!(rt; "rows of {iterations} in chunks of {chunk}")?;
     for r in 0..source.len() {
         if let Some(row) = source.row(r) {
-            print!(rt; "  {r}: ")?;
-            show(rt, "", row)?;
+            show(rt, &format_args!("  {r}: "), row)?;
         }
     }
     let past = source.row(source.len()).is_some();

@@ -24,7 +24,7 @@ fn text(rt: &HostRuntime, name: &str, bytes: &[u8]) -> anyhow::Result<()> {
         Ok(count) => {
             println!(rt; "{name}: read {count}")?;
             for row in rows.iter().take(count) {
-                show(rt, "  ", *row)?;
+                show(rt, &"  ", *row)?;
             }
             Ok(())
         }

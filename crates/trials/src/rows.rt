@@ -1,8 +1,9 @@
 // Rows for the jobs that are tried.
 use job::{Kind, Row};
+use std::fmt::Display;
 
-// Prints a row's three numbers, after something on the line.
-pub fn show(rt: &HostRuntime, before: &str, row: Row) -> anyhow::Result<()> {
+// Prints a row's three numbers, after something on the line, at once.
+pub fn show<D: Display>(rt: &HostRuntime, before: &D, row: Row) -> anyhow::Result<()> {
     println!(rt;
         "{before}kind {} size {} mark {}",
         row.kind, row.size, row.mark
