@@ -36,6 +36,7 @@ pub struct Tables {
 // Clauses see the board of the rules.
 impl Model for Tables {
     ghost use Rattle.std.specs.Prelude.{◌≡◌, length, map};
+    ghost use Rattle.job.specs.Layouts.{laid};
     ghost use Rattle.rules.specs.Boards.{Board};
 
     ghost Value = { Board };
@@ -43,7 +44,7 @@ impl Model for Tables {
     ghost use Rattle.board.specs.declared.tables.Progress.{Progress};
 
     ghost view = { λ t. record {
-      rows = t.job.rows;
+      rows = laid t.job;
       workers = t.workers.items;
       tasks = map (λ (p : Progress). p.task) t.progress.items;
       lives = map (λ (p : Progress). p.live) t.progress.items;
@@ -51,7 +52,7 @@ impl Model for Tables {
       finished = t.finished;
     } };
 
-    ghost invariant = { λ t. length t.progress.items ≡ length t.job.rows };
+    ghost invariant = { λ t. length t.progress.items ≡ length (laid t.job) };
 }
 
 impl Tables {

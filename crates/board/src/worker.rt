@@ -24,14 +24,15 @@ pub struct Worker {
 
 // Clauses see the worker of the rules.
 impl Model for Worker {
+    ghost use Rattle.deque.specs.Deques.{rows_in};
     ghost use Rattle.rules.specs.Boards.{Worker as Dealer};
 
     ghost Value = { Dealer };
 
     ghost view = { λ x. record {
       state = x.state;
-      preempted = x.preempted.rows;
-      fresh = x.fresh.rows;
+      preempted = rows_in x.preempted;
+      fresh = rows_in x.fresh;
       spawns = x.spawns;
       steals = x.steals;
       policy = x.policy;

@@ -5,6 +5,10 @@ use Rattle.deque.specs.Queues.{above_bottom, top, top_over, below_top, below_top
 use Rattle.deque.specs.Deques.{room, slot, ring}
 
 module _ (slots : List ℕ) where
+  pub length-ring : (at n : ℕ) → length (ring slots at n) ≡ n
+  length-ring at zero = refl
+  length-ring at (suc n) = ap suc (length-ring (at + 1) n)
+
   -- only the slot counts
   pub ring-slot : (at to n : ℕ) → slot at ≡ slot to → ring slots at n ≡ ring slots to n
   ring-slot at to zero e = refl

@@ -1,3 +1,2 @@
 pub mod Deques
 pub mod Queues
-pub mod RingLengths

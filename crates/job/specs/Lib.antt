@@ -1,5 +1,4 @@
 pub mod Entries
-pub mod EntryCounts
 pub mod Kinds
 pub mod Lawful
 pub mod Layouts

@@ -2,7 +2,7 @@
 ghost use Rattle.std.specs.Prelude.{◌≡◌, ◌≤◌, ◌==◌, [], length, OnErr};
 ghost use Rattle.job.specs.Entries.{entry_rows, AroundRow, LaidOut};
 ghost use Rattle.job.specs.Lawful.{Lawful, checked};
-ghost use Rattle.job.specs.Layouts.{laid_after};
+ghost use Rattle.job.specs.Layouts.{laid, laid_after};
 ghost use Rattle.job.specs.Rows.{most_rows, row, end, nearest, finish, task};
 
 use crate::entry::{Around, Entry};
@@ -11,43 +11,18 @@ use crate::refusal::JobRefusal;
 use crate::row::Row;
 use crate::source::JobSource;
 use fill::fill_entries;
-use std::marker::Model;
 
+mod entries;
 mod fill;
 
-// No rows, or those of a lawful job with what was worked out of each. They are counted here, since
-// an `ArrayVec` is not `Copy`.
-#[derive(Clone, Copy, Debug)]
-pub struct Layout {
-    entries: [Entry; MOST_ROWS],
-    count: usize,
-}
-
-// Clauses see the rows, and the entries that they lie in: a view of the rows alone would forget the
-// entries past the last row, and such a type is not `Copy`.
-impl Model for Layout {
-    ghost use Rattle.std.specs.Prelude.{◌≡◌, ◌≤◌, length, take};
-    ghost use Rattle.job.specs.Rows.{most_rows};
-    ghost use Rattle.job.specs.Entries.{entry_rows, LaidOut};
-    ghost use Rattle.job.specs.Layouts.{Laid};
-    ghost use Rattle.job.specs.EntryCounts.{length-entry_rows};
-
-    ghost Value = { Laid };
-
-    ghost view = { λ l. record { rows = entry_rows (take l.count l.entries); entries = l.entries } };
-
-    ghost invariant = { λ l. (length l.entries ≡ most_rows) × ((l.count ≤ most_rows) × LaidOut (take l.count l.entries)) };
-
-    ghost inverse = { λ laid. record { entries = laid.entries; count = length laid.rows } };
-
-    ghost inverse_ok = { λ l h i. record { entries = l.entries; count = length-entry_rows l.entries l.count h.0 h.1.0 i } };
-}
+pub use entries::Layout;
 
 // By hand, since an array of so many entries has none to derive it from.
 impl Default for Layout {
     ghost use Rattle.std.specs.Prelude.{◌≡◌, []};
+    ghost use Rattle.job.specs.Layouts.{laid};
 
-    ghost is_default = { λ l. l.rows ≡ [] };
+    ghost is_default = { λ l. laid l ≡ [] };
 
     fn default() -> Layout {
         Layout::new()
@@ -57,7 +32,7 @@ impl Default for Layout {
 impl Layout {
     // No rows.
     pub fn new() -> Layout
-        ensures { result.rows ≡ [] }
+        ensures { laid result ≡ [] }
     {
         Layout {
             entries: [Entry::default(); MOST_ROWS],
@@ -68,7 +43,7 @@ impl Layout {
     // Lays a job out in the place of the one before, unless it is refused.
     pub fn lay<S: JobSource>(&mut self, source: &S) -> Result<(), JobRefusal>
         ensures result { result ≡ checked (S.JobSource.rows source.now) }
-        ensures after { self.new.rows ≡ laid_after result (S.JobSource.rows source.now) self.old.rows }
+        ensures after { laid self.new ≡ laid_after result (S.JobSource.rows source.now) (laid self.old) }
         ensures kept { OnErr result (self.new ≡ self.old) }
     {
         let mut nearest = [0; MOST_ROWS];
@@ -80,23 +55,23 @@ impl Layout {
 
     // How many rows there are. Where there are any, they are a lawful job.
     pub fn len(&self) -> usize
-        ensures rows { result ≡ length self.now.rows }
+        ensures rows { result ≡ length (laid self.now) }
         ensures fits { result ≤ most_rows }
-        ensures lawful { 1 ≤ result → Lawful self.now.rows }
+        ensures lawful { 1 ≤ result → Lawful (laid self.now) }
     {
         self.count
     }
 
     // Whether there is no row.
     pub fn is_empty(&self) -> bool
-        ensures { result ≡ (length self.now.rows == 0) }
+        ensures { result ≡ (length (laid self.now) == 0) }
     {
         self.count == 0
     }
 
     // The entries of the rows.
     fn laid(&self) -> &[Entry]
-        ensures rows { entry_rows result.now ≡ self.now.rows }
+        ensures rows { entry_rows result.now ≡ laid self.now }
         ensures right { LaidOut result.now }
         ensures fits { length result.now ≤ most_rows }
     {
@@ -105,7 +80,7 @@ impl Layout {
 
     // Row r, or a row of zeros past the last.
     pub fn row(&self, r: usize) -> Row
-        ensures { result ≡ row self.now.rows r }
+        ensures { result ≡ row (laid self.now) r }
     {
         self.laid().get(r).copied().unwrap_or_default().row
     }
@@ -113,7 +88,7 @@ impl Layout {
     // Where row r ends.
     #[tactic(auto, unfolding(crate::specs::Rows::end))]
     pub fn end(&self, r: usize) -> usize
-        ensures { result ≡ end self.now.rows r }
+        ensures { result ≡ end (laid self.now) r }
     {
         // by cases, since past the last row nothing bounds r
         match self.laid().get(r) {
@@ -125,7 +100,7 @@ impl Layout {
     // What is around row r, if it is a later row of the job.
     #[tactic(auto, using(crate::proofs::Laid::around_row_past))]
     fn around(&self, r: usize) -> Option<Around>
-        ensures { AroundRow self.now.rows r result }
+        ensures { AroundRow (laid self.now) r result }
     {
         self.laid().get(r)?.around
     }
@@ -133,21 +108,21 @@ impl Layout {
     // The nearest row that encloses r. This, its finish and its task are three calls, since the
     // rules name the three apart.
     pub fn nearest(&self, r: usize) -> Option<usize>
-        ensures { result ≡ nearest self.now.rows r }
+        ensures { result ≡ nearest (laid self.now) r }
     {
         Some(self.around(r)?.nearest as usize)
     }
 
     // The nearest finish row that encloses r.
     pub fn finish(&self, r: usize) -> Option<usize>
-        ensures { result ≡ finish self.now.rows r }
+        ensures { result ≡ finish (laid self.now) r }
     {
         Some(self.around(r)?.finish as usize)
     }
 
     // The nearest task that encloses r.
     pub fn task(&self, r: usize) -> Option<usize>
-        ensures { result ≡ task self.now.rows r }
+        ensures { result ≡ task (laid self.now) r }
     {
         Some(self.around(r)?.task as usize)
     }

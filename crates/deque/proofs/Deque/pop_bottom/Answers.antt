@@ -1,8 +1,11 @@
-use Rattle.std.proofs.Common.{ap, ◌∙◌, rules}
-use Rattle.deque.specs.Deques.{Held}
-use Rattle.deque.specs.Queues.{above_bottom}
-use Rattle.deque.proofs.Rings.{popped_bottom}
+use Rattle.std.proofs.Common.{min, ◌∙◌, ap₂, arith, rules}
+use Rattle.deque.specs.Deques.{room, ring, rows_in}
+use Rattle.deque.proofs.Rings.{length-ring, popped_bottom}
 use Rattle.deque.proofs.Deque.pop_bottom.Goals as goal
 
 pub returns-clause-after : goal.returns-clause-after
-returns-clause-after c = popped_bottom _ _ _ (search rules) ∙ ap (λ (h : Held). above_bottom h.rows) c.self.view_is
+unfolding rows_in
+returns-clause-after c =
+    let d = c.args.self.now in
+    ap₂ (ring d.slots) c.slot-self.ensures (omega (arith, length-ring d.slots c.slot-self.result (min d.len room)))
+    ∙ popped_bottom d.slots d.bottom (min d.len room) (search rules)

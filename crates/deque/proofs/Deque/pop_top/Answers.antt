@@ -1,11 +1,16 @@
-use Rattle.std.proofs.Common.{ap, ◌∙◌, rules}
-use Rattle.deque.specs.Deques.{Held}
-use Rattle.deque.specs.Queues.{top, below_top}
-use Rattle.deque.proofs.Rings.{popped_top}
+use Rattle.std.proofs.Common.{◌≡◌, ◌-◌, ◌+◌, min, get_or, Some, ◌∙◌, ap, arith, rules}
+use Rattle.deque.specs.Deques.{room, slot, ring, rows_in}
+use Rattle.deque.proofs.Rings.{length-ring, popped_top}
 use Rattle.deque.proofs.Deque.pop_top.Goals as goal
 
 pub returns : goal.returns
+unfolding rows_in
 returns c =
-    let d = c.self.inside in
-    let popped = popped_top d.slots d.bottom d.len (search rules) in
-    record { result = popped.0 ∙ ap (λ (h : Held). top h.rows) c.self.view_is; after = popped.1 ∙ ap (λ (h : Held). below_top h.rows) c.self.view_is; kept = search rules }
+    let d = c.args.self.now in
+    let n : c.len.result ≡ min d.len room = c.len.ensures.rows ∙ length-ring _ _ _ in
+    let popped = popped_top d.slots d.bottom (min d.len room) (search rules) in
+    record {
+      result = ap (λ k. Some (get_or d.slots k 0)) (c.slot.ensures ∙ ap (λ m. slot (d.bottom + (m - 1))) n) ∙ popped.0;
+      after = ap (ring d.slots d.bottom) (omega arith) ∙ popped.1;
+      kept = search rules;
+    }

@@ -1,21 +1,18 @@
-use Rattle.std.proofs.Common.{◌≡◌, ◌<◌, ◌∷◌, length, sym, ap, ◌∙◌, arith, rules}
+use Rattle.std.proofs.Common.{◌≡◌, min, set, ◌∙◌, ap₂, arith, rules}
 use Rattle.std.proofs.lemmas.Bool.Decides.{nat_tests}
-use Rattle.deque.specs.Deques.{room, Held}
-use Rattle.deque.specs.RingLengths.{length-ring}
-use Rattle.deque.proofs.Rings.{ring_with_bottom}
+use Rattle.deque.specs.Deques.{room, ring, rows_in}
+use Rattle.deque.proofs.Rings.{length-ring, ring_with_bottom}
 use Rattle.deque.proofs.Deque.push_bottom.Goals as goal
 
-pub returns-then-self-eq-ROOM : goal.returns-then-self-eq-ROOM
-returns-then-self-eq-ROOM c =
-    let many : length c.args.self.now.rows ≡ room = sym (ap (λ (h : Held). length h.rows) c.self.view_is) ∙ length-ring _ _ _ ∙ c.if-self-eq-ROOM.true in
-    record { result = grind (arith, nat_tests); after = grind (arith, nat_tests); kept = search rules }
-
 pub returns : goal.returns
+unfolding rows_in
 returns c =
-    let d = c.self.inside in
-    let few : length c.args.self.now.rows < room = omega (arith, ap (λ (h : Held). length h.rows) c.self.view_is, length-ring d.slots d.bottom d.len) in
+    let d = c.args.self.now in
+    let n : c.len-len.result ≡ min d.len room = c.len-len.ensures.rows ∙ length-ring _ _ _ in
     record {
       result = grind (arith, nat_tests);
-      after = ring_with_bottom d.slots d.bottom d.len c.args.row (omega arith) (omega arith) ∙ ap (λ (h : Held). c.args.row ∷ h.rows) c.self.view_is ∙ grind (arith, nat_tests);
+      after =
+          ap₂ (λ j. ring (set d.slots j c.args.row) j) c.slot-self.ensures (omega arith)
+          ∙ ring_with_bottom d.slots d.bottom (min d.len room) c.args.row (omega arith) (omega arith) ∙ grind (arith, nat_tests);
       kept = search rules;
     }
