@@ -17,8 +17,9 @@ pub fn check<S: JobSource>(source: &S) -> Result<(), JobRefusal>
     ensures judged { Judged (S.JobSource.rows source.now) result }
     ensures nests { result ≡ Ok tt → Nests (S.JobSource.rows source.now) }
 {
+    let count = row_count(source)?;
     let mut nearest = [0; MOST_ROWS];
-    nearest_rows(source, &mut nearest)
+    nearest_rows(source, count, &mut nearest)
 }
 
 // How many rows a job has, refused where there are none or too many.
@@ -36,15 +37,17 @@ pub fn row_count<S: JobSource>(source: &S) -> Result<usize, JobRefusal>
 // Notes the nearest enclosing row of each row but row 0 in the table; refused as the check says. One
 // pass: each row looks for its own among those that the row before it lies in, so that every row is
 // left behind once. The table is the caller's: as the answer it would be copied, which takes longer
-// than the check of a small job.
+// than the check of a small job. The count is the caller's too, so that a job refused by it needs no
+// table.
 pub(crate) fn nearest_rows<S: JobSource>(
     source: &S,
+    count: usize,
     nearest: &mut [u16; MOST_ROWS],
 ) -> Result<(), JobRefusal>
+    requires { Ok count ≡ row_count (length (S.JobSource.rows source.now)) }
     ensures result { result ≡ checked (S.JobSource.rows source.now) }
     ensures near { IfOk result (λ u. NearestRows (S.JobSource.rows source.now) nearest.new) }
 {
-    let count = row_count(source)?;
     if !first_is_lawful(source, count) {
         return Err(JobRefusal::Unlawful(0));
     }

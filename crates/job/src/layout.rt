@@ -6,7 +6,7 @@ ghost use Rattle.job.specs.Layouts.{laid, laid_after};
 ghost use Rattle.job.specs.Rows.{most_rows, row, end, nearest, finish, task};
 
 use crate::entry::{Around, Entry};
-use crate::lawful::{MOST_ROWS, nearest_rows};
+use crate::lawful::{MOST_ROWS, nearest_rows, row_count};
 use crate::refusal::JobRefusal;
 use crate::row::Row;
 use crate::source::JobSource;
@@ -46,8 +46,9 @@ impl Layout {
         ensures after { laid self.new ≡ laid_after result (S.JobSource.rows source.now) (laid self.old) }
         ensures kept { OnErr result (self.new ≡ self.old) }
     {
+        let count = row_count(source)?;
         let mut nearest = [0; MOST_ROWS];
-        nearest_rows(source, &mut nearest)?;
+        nearest_rows(source, count, &mut nearest)?;
         fill_entries(source, &nearest, &mut self.entries);
         self.count = source.len();
         Ok(())

@@ -11,28 +11,28 @@ use Rattle.job.proofs.lawful.nearest_rows.Goals as goal
 pub returns-then-not-first_is_lawful-clause-result : goal.returns-then-not-first_is_lawful-clause-result
 returns-then-not-first_is_lawful-clause-result g c =
     let rows = g.S.JobSource.rows c.args.source.now in
-    let few = counted_is (length rows) _ c.in_ok-count.ensures in
-    verdict_is rows _ c.in_ok-count.ensures (Some 0)
+    let few = counted_is (length rows) _ c.requires in
+    verdict_is rows _ c.requires (Some 0)
     (unlawful_at rows 0 (omega arith) (sym c.if-not-first_is_lawful.ensures) (λ q l. absurd (omega arith)))
 
 pub climb-p-requires : goal.climb-p-requires
 climb-p-requires g c =
     let rows = g.S.JobSource.rows c.args.source.now in
-    let few = counted_is (length rows) _ c.in_ok-count.ensures in
+    let few = counted_is (length rows) _ c.requires in
     let all = whole-end rows (sym c.if-not-first_is_lawful.ensures) in
     record { later = (omega arith, omega arith); whole = omega arith; tabled = c.loop-r.invariant.2 }
 
 pub returns-then-not-is_lawful-clause-result : goal.returns-then-not-is_lawful-clause-result
 returns-then-not-is_lawful-clause-result g c =
     let rows = g.S.JobSource.rows c.args.source.now in
-    let few = counted_is (length rows) _ c.in_ok-count.ensures in
-    verdict_is rows _ c.in_ok-count.ensures (Some c.loop-r.r)
+    let few = counted_is (length rows) _ c.requires in
+    verdict_is rows _ c.requires (Some c.loop-r.r)
     (unlawful_at rows c.loop-r.r (omega arith) (sym c.if-not-is_lawful.ensures) c.loop-r.invariant.1)
 
 pub overflow_cast-nearest : goal.overflow_cast-nearest
 overflow_cast-nearest g c =
     let rows = g.S.JobSource.rows c.args.source.now in
-    let few = counted_is (length rows) _ c.in_ok-count.ensures in
+    let few = counted_is (length rows) _ c.requires in
     let less = lower rows c.loop-r.r _ c.climb-p.ensures in
     omega arith
 
@@ -42,7 +42,7 @@ loop-r-preserved g c =
     let r = c.loop-r.r in
     let table = c.loop-r.nearest in
     let p = c.climb-p.result in
-    let few = counted_is (length rows) _ c.in_ok-count.ensures in (
+    let few = counted_is (length rows) _ c.requires in (
       length-set table r p ∙ c.loop-r.invariant.0,
       below_more (λ q. lawful_row rows q ≡ true) r c.loop-r.invariant.1 (sym {b = lawful_row rows r} c.if-not-is_lawful.ensures),
       λ q l m.
@@ -57,7 +57,7 @@ loop-r-preserved g c =
 pub returns : goal.returns
 returns g c =
     let rows = g.S.JobSource.rows c.args.source.now in
-    let few = counted_is (length rows) _ c.in_ok-count.ensures in
+    let few = counted_is (length rows) _ c.requires in
     let none = unlawful_none rows (λ q l. c.loop-r.invariant.1 q (omega arith)) in
-    let is = verdict_is rows _ c.in_ok-count.ensures None none in
+    let is = verdict_is rows _ c.requires None none in
     record { result = is; near = record { lawful = granted rows is; near = λ q later l. c.loop-r.invariant.2 q later (omega arith) } }
