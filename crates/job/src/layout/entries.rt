@@ -12,8 +12,7 @@ use crate::lawful::MOST_ROWS;
 //
 // What always holds of the fields stands beside them, and clauses speak of the rows in them: a type
 // that is `Copy` and has a model cannot be reached where it lies in a local array. With ghost fields
-// it can, though in an array of arrays by `get` and the like alone; and no function takes an `Option`
-// of a reference to what holds a slice of it.
+// it can, though in an array of arrays by `get` and the like alone.
 #[derive(Clone, Copy, Debug)]
 pub struct Layout {
     pub(super) entries: [Entry; MOST_ROWS],
